@@ -1,0 +1,135 @@
+-- A turn of the loops over a text: what the rest of the text adds, by its first four octets. Assumes nothing.
+use mathlib.Core.Path.{_≡_, refl, sym, _∙_, ap}
+use mathlib.Core.Bool.{Bool, true, false, cond, false≢true}
+use mathlib.Core.List.{List, [], _∷_, _++_}
+use Prim.Native.Nat.{ℕ, _+_, _-_, _<_, _≤_}
+use native.Mathlib.Nat.{add-zero, not-suc-le-zero}
+use native.Mathlib.Omega.{arith}
+use lib.ListN.{length, drop, length-drop, length-append, drop-of-length-le}
+use lib.Seq.{drop-cons, sets}
+use Rattle.octets.specs.declared.Measured.{Measured}
+use Rattle.octets.proofs.Answers.{resumed, resumed-zero}
+use Rattle.octets.proofs.Lists.{drop-four, sets-append}
+use Rattle.base64.specs.Base64.{value, joined, letters, three, octetsOf, isEmpty, follows, valid, octets, measured}
+use Rattle.base64.specs.Places.{groupAt, lettersAt}
+use Rattle.base64.specs.declared.Group.{Group}
+use Rattle.base64.specs.declared.Group.the-variants.{One, Two, Three, Bad}
+use Rattle.base64.proofs.Groups.{as-three, letters-are, Cases, is-three, cases}
+
+-- the measure of a text after n octets; and after a group behind them
+abbrev pub from : ℕ → List ℕ → Measured
+from n t = resumed n (valid t) (octets t)
+
+pub from-zero : (t : List ℕ) → from 0 t ≡ measured t
+from-zero t = resumed-zero (valid t) (octets t)
+
+abbrev pub after : Group → ℕ → List ℕ → Measured
+after (One x) n r = cond (isEmpty r) (Measured.Length (n + 1)) Measured.Malformed
+after (Two x y) n r = cond (isEmpty r) (Measured.Length (n + 2)) Measured.Malformed
+after (Three x y z) n r = from (n + 3) r
+after Bad n r = Measured.Malformed
+
+grown : (m n : ℕ) → m ≡ n → Measured.Length m ≡ Measured.Length n
+grown m n e = ap Measured.Length e
+
+ended : (g : Group) (n k : ℕ) (r : List ℕ) → length (octetsOf g) ≡ k
+    → cond (isEmpty r) (Measured.Length (n + length (octetsOf g ++ octets r))) Measured.Malformed ≡ cond (isEmpty r) (Measured.Length (n + k)) Measured.Malformed
+unfolding octets
+ended g n k [] e = grown _ _ (omega (arith, length-append (octetsOf g) [], e))
+ended g n k (x ∷ r) e = refl
+
+split : (g : Group) (n : ℕ) (r : List ℕ)
+    → cond (follows g (isEmpty r) (valid r)) (Measured.Length (n + length (octetsOf g ++ octets r))) Measured.Malformed ≡ after g n r
+split (One x) n r = ended (One x) n 1 r refl
+split (Two x y) n r = ended (Two x y) n 2 r refl
+split (Three x y z) n r = ap (λ (k : ℕ). cond (valid r) (Measured.Length k) Measured.Malformed) (omega arith)
+split Bad n r = refl
+
+module _ (t : List ℕ) (i : ℕ) (h : i + 4 ≤ length t) where
+  pub turn : (n : ℕ) → from n (drop i t) ≡ after (groupAt t i) n (drop (i + 4) t)
+  unfolding valid octets
+  turn n = rw (drop-four t i h) (split (groupAt t i) n (drop (i + 4) t))
+
+  octets-turn : octets (drop i t) ≡ octetsOf (groupAt t i) ++ octets (drop (i + 4) t)
+  unfolding octets
+  octets-turn = rw (drop-four t i h)
+
+-- the last group
+pub went : (t : List ℕ) (i n : ℕ) (r g : Group) → from n (drop i t) ≡ measured t → r ≡ groupAt t i → r ≡ g → i + 4 ≤ length t → after g n (drop (i + 4) t) ≡ measured t
+went t i n r g inv e f h = ap (λ (x : Group). after x n (drop (i + 4) t)) (sym f ∙ e) ∙ sym (turn t i h n) ∙ inv
+
+pub empty-end : (t : List ℕ) (i : ℕ) → length t ≤ i → isEmpty (drop i t) ≡ true
+empty-end t i h = ap isEmpty (drop-of-length-le t h)
+
+empty-not : (t : List ℕ) (i : ℕ) → i < length t → isEmpty (drop i t) ≡ false
+empty-not t i h = ap isEmpty (drop-cons t i 0 h)
+
+-- fewer than four octets at the end
+short-valid : (r : List ℕ) → 0 < length r → length r < 4 → valid r ≡ false
+unfolding valid
+short-valid [] h k = absurd (not-suc-le-zero h)
+short-valid (a ∷ []) h k = refl
+short-valid (a ∷ b ∷ []) h k = refl
+short-valid (a ∷ b ∷ c ∷ []) h k = refl
+short-valid (a ∷ b ∷ c ∷ d ∷ r) h k = absurd (omega arith)
+
+pub short : (t : List ℕ) (i n : ℕ) → from n (drop i t) ≡ measured t → i < length t → length t - i < 4 → Measured.Malformed ≡ measured t
+short t i n inv h k = rw (short-valid (drop i t) (simp length-drop (omega arith)) (simp length-drop k)) at inv
+
+pub finished : (t : List ℕ) (i n : ℕ) → from n (drop i t) ≡ measured t → length t ≤ i → Measured.Length n ≡ measured t
+unfolding valid octets
+finished t i n inv h = rw (drop-of-length-le t {i = i} h, add-zero) at inv
+
+-- a group that more text follows is four letters, or the text is not base64
+module _ (a b c d : ℕ) where
+  more : (g : Group) (n : ℕ) (r : List ℕ) → Cases a b c d g → isEmpty r ≡ false → letters (value a) (value b) (value c) (value d) ≡ false → Measured.Malformed ≡ after g n r
+  more (One x) n r k e f = simp e
+  more (Two x y) n r k e f = simp e
+  more (Three x y z) n r (is-three ha hb hc hd) e f = absurd (false≢true (sym f ∙ letters-are _ _ _ _ ha hb hc hd))
+  more Bad n r k e f = refl
+
+  only : (g : Group) (r : List ℕ) → Cases a b c d g → isEmpty r ≡ false → follows g (isEmpty r) (valid r) ≡ true → (letters (value a) (value b) (value c) (value d) ≡ true) × (valid r ≡ true)
+  only (One x) r k e f = absurd (false≢true (sym e ∙ f))
+  only (Two x y) r k e f = absurd (false≢true (sym e ∙ f))
+  only (Three x y z) r (is-three ha hb hc hd) e f = (letters-are _ _ _ _ ha hb hc hd, f)
+  only Bad r k e f = absurd (false≢true f)
+
+module _ (t : List ℕ) (i : ℕ) (h : i + 4 < length t) where
+  pub broke-off : (n : ℕ) → from n (drop i t) ≡ measured t → lettersAt t i ≡ false → Measured.Malformed ≡ measured t
+  broke-off n inv e =
+      more _ _ _ _ (groupAt t i) n (drop (i + 4) t) (cases _ _ _ _) (empty-not t (i + 4) h) e ∙ sym (turn t i (omega arith) n) ∙ inv
+
+  pub went-on : (n : ℕ) → from n (drop i t) ≡ measured t → lettersAt t i ≡ true → from (n + 3) (drop (i + 4) t) ≡ measured t
+  went-on n inv e = ap (λ (g : Group). after g n (drop (i + 4) t)) (as-three _ _ _ _ refl refl refl refl e) ∙ sym (turn t i (omega arith) n) ∙ inv
+
+  -- in a text that is base64 a group that more text follows is four letters
+  pub goes-on : valid (drop i t) ≡ true → (lettersAt t i ≡ true) × (valid (drop (i + 4) t) ≡ true)
+  unfolding valid
+  goes-on e =
+      only _ _ _ _ (groupAt t i) (drop (i + 4) t) (cases _ _ _ _) (empty-not t (i + 4) h)
+      (rw (drop-four t i (omega arith)) at e)
+
+-- a turn that writes: the group g stands at i, with n octets written before it
+pub sized : (g h : Group) → g ≡ h → length (octetsOf g) ≡ length (octetsOf h)
+sized g h e = ap (λ (x : Group). length (octetsOf x)) e
+
+module _ (t : List ℕ) (i n : ℕ) (g : Group) (e : g ≡ groupAt t i) (h : i + 4 ≤ length t) where
+  octets-here : octets (drop i t) ≡ octetsOf g ++ octets (drop (i + 4) t)
+  octets-here = octets-turn t i h ∙ ap (λ (x : Group). octetsOf x ++ octets (drop (i + 4) t)) (sym e)
+
+  pub counted : n + length (octetsOf g) + length (octets (drop (i + 4) t)) ≡ n + length (octets (drop i t))
+  counted = rw octets-here (omega (arith, length-append (octetsOf g) (octets (drop (i + 4) t))))
+
+  pub filled : (o w : List ℕ) → sets o n (octets (drop i t)) ≡ w → sets (sets o n (octetsOf g)) (n + length (octetsOf g)) (octets (drop (i + 4) t)) ≡ w
+  filled o w inv = sym (sets-append o n (octetsOf g) (octets (drop (i + 4) t))) ∙ ap (λ (l : List ℕ). sets o n l) (sym octets-here) ∙ inv
+
+short-octets : (r : List ℕ) → length r < 4 → octets r ≡ []
+unfolding octets
+short-octets [] k = refl
+short-octets (a ∷ []) k = refl
+short-octets (a ∷ b ∷ []) k = refl
+short-octets (a ∷ b ∷ c ∷ []) k = refl
+short-octets (a ∷ b ∷ c ∷ d ∷ r) k = absurd (omega arith)
+
+pub all-filled : (t : List ℕ) (i n : ℕ) (o w : List ℕ) → sets o n (octets (drop i t)) ≡ w → length t < i + 4 → o ≡ w
+all-filled t i n o w inv h = rw (short-octets (drop i t) (simp length-drop (omega arith))) at inv

@@ -1,0 +1,16 @@
+use borrow.Author.Needs.{needs}
+use Rattle.base64.proofs.put_quad3.Statement.{statement}
+use Rattle.base64.proofs.put_quad3.Tie as tie
+
+pub put-quad3-spec : {M : Type 1} → statement M
+put-quad3-spec =
+    tie.close
+    (tie.spec
+    (λ c κs. search needs)
+    (λ c κs. search needs)
+    (λ c κs. search needs)
+    (λ c κs. search needs)
+    (λ c κs. search needs)
+    (λ c κs. search needs)
+    (λ c. search needs)
+    (λ c. (search needs, cc)))

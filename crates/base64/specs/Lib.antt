@@ -1,0 +1,3 @@
+-- The definitions that the contracts of base64 cite.
+pub mod Base64
+pub mod Places

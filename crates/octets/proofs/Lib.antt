@@ -1,0 +1,6 @@
+-- Laws that the proofs of the crates above cite too.
+pub mod Lists
+pub mod Table
+pub mod Alphabet
+pub mod Cases
+pub mod Answers

@@ -1,0 +1,4 @@
+-- The definitions that readings and writings of octets share.
+pub mod Answers
+pub mod Alphabet
+pub mod Lists
