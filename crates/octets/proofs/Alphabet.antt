@@ -2,7 +2,7 @@
 use mathlib.Core.Path.{_≡_, refl, sym, _∙_, ap}
 use mathlib.Core.Bool.{Bool, true, false, cond}
 use mathlib.Core.List.{List, [], _∷_}
-use Prim.Native.Nat.{ℕ, zero, suc, _+_, _<_}
+use Prim.Native.Nat.{ℕ, zero, suc, _+_, _<_, _≤_}
 use native.Mathlib.Nat.{add-zero, zero-add, le-of-suc-le-suc, not-suc-le-zero}
 use native.Mathlib.Omega.{arith}
 use borrow.Author.Tests.{eqb-true}
@@ -19,6 +19,15 @@ getD-index (y ∷ l) x h = go (eqb x y) refl (getD-index l x) h
     go : (t : Bool) → eqb x y ≡ t → (index l x < length l → getD l (index l x) 0 ≡ x) → cond t 0 (suc (index l x)) < suc (length l) → getD (y ∷ l) (cond t 0 (suc (index l x))) 0 ≡ x
     go true e ih h = sym (eqb-true x y e)
     go false e ih h = ih (le-of-suc-le-suc h)
+
+-- no index is past the end
+pub index-most : (l : List ℕ) (x : ℕ) → index l x ≤ length l
+index-most [] x = omega arith
+index-most (y ∷ l) x = go (eqb x y) (index-most l x)
+  where
+    go : (t : Bool) → index l x ≤ length l → cond t 0 (suc (index l x)) ≤ suc (length l)
+    go true h = omega arith
+    go false h = omega arith
 
 -- and an octet's index is where it stands, if no octet stands twice: one test of the whole alphabet
 abbrev pub indexed : List ℕ → ℕ → ℕ → Bool

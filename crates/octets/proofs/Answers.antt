@@ -1,17 +1,29 @@
--- What an answer of measure says, and with it what decode and encode have to answer. Assumes nothing.
+-- What a write leaves; what an answer of measure says, and with it what decode and encode have to answer. Assumes nothing.
 use mathlib.Core.Path.{_≡_, refl, sym, _∙_, ap}
 use mathlib.Core.Bool.{Bool, true, false, cond}
-use mathlib.Core.List.{List}
+use mathlib.Core.List.{List, _∷_, _++_}
 use Prim.Native.Nat.{ℕ, _+_, _<_, _≤_}
 use native.Mathlib.Nat.{zero-add}
 use native.Mathlib.Omega.{arith}
 use borrow.Author.Tests.{le-leb, lt-leb}
-use lib.ListN.{length}
-use lib.Seq.{sets}
+use lib.Dec.{leb}
+use lib.ListN.{length, take, drop}
+use lib.Seq.{sets, sets-eq, length-sets}
 use Rattle.octets.specs.Answers.{written, measured, decoded, decodedInto, encoded}
 use Rattle.octets.specs.declared.Measured.{Measured}
 use Rattle.octets.specs.declared.Decoded.{Decoded}
 use Rattle.octets.specs.declared.Encoded.{Encoded}
+
+-- what a write changes: the octets from `at` on, as many as are written, and nothing else
+pub written-is : (o : List ℕ) (at : ℕ) (l : List ℕ) → at + length l ≤ length o → written o at l ≡ take at o ++ l ++ drop (at + length l) o
+written-is o at l h = rw (le-leb _ _ h) (sets-eq l o at h)
+
+pub length-written : (o : List ℕ) (at : ℕ) (l : List ℕ) → length (written o at l) ≡ length o
+length-written o at l = go (leb (at + length l) (length o))
+  where
+    go : (b : Bool) → length (cond b (sets o at l) o) ≡ length o
+    go true = length-sets o at l
+    go false = refl
 
 -- the measure of a text of which n octets are read and the rest stands for l: what a loop keeps equal
 abbrev pub resumed : ℕ → Bool → List ℕ → Measured
@@ -19,6 +31,9 @@ resumed n ok l = cond ok (Measured.Length (n + length l)) Measured.Malformed
 
 pub resumed-zero : (ok : Bool) (l : List ℕ) → resumed 0 ok l ≡ measured ok l
 resumed-zero ok l = simp zero-add
+
+pub one-more : (ok : Bool) (n x : ℕ) (l : List ℕ) → resumed n ok (x ∷ l) ≡ resumed (n + 1) ok l
+one-more ok n x l = ap (λ (k : ℕ). cond ok (Measured.Length k) Measured.Malformed) (omega arith)
 
 length-true : (b : Bool) (k n : ℕ) → Measured.Length n ≡ cond b (Measured.Length k) Measured.Malformed → (b ≡ true) × (n ≡ k)
 length-true true k n e = (refl, (cc))

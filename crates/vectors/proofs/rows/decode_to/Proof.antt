@@ -1,0 +1,17 @@
+use lib.ListN.{length-take}
+use native.Mathlib.Omega.{arith}
+use borrow.Author.Needs.{needs}
+use Rattle.vectors.proofs.rows.decode_to.Statement.{statement}
+use Rattle.vectors.proofs.rows.decode_to.Tie as tie
+
+pub decode-to-spec : {M : Type 1} → statement M
+decode-to-spec =
+    tie.close
+    (tie.spec
+    (λ c. search needs)
+    (λ c. simp length-take (omega arith))
+    (λ c κs. search needs)
+    (λ c κs. search needs)
+    (λ c. search needs)
+    (λ c. search needs)
+    (λ c. search needs))

@@ -1,0 +1,12 @@
+// Outside vectors, run through the proved functions. What they must print is in the file stdout, which was written from the papers
+// (README, "What is tested").
+mod base64_cases;
+mod form;
+mod rows;
+mod show;
+mod xtext_cases;
+
+fn main() {
+    base64_cases::run();
+    xtext_cases::run();
+}

@@ -1,0 +1,3 @@
+-- The definitions that the contracts of xtext cite.
+pub mod Xtext
+pub mod Steps

@@ -1,0 +1,224 @@
+// Xtext, RFC 4954 section 8.
+ghost use mathlib.Core.Path.{_≡_};
+ghost use mathlib.Core.Bool.{true};
+ghost use Prim.Native.Nat.{_+_, _*_, _<_, _≤_};
+ghost use lib.ListN.{length};
+ghost use lib.Seq.{sets, slice};
+ghost use Rattle.octets.specs.Answers.{written};
+ghost use Rattle.xtext.specs.Xtext.{xchar, digits, digit, number, hexdig, hexchar, octets, valid, measured, decoded, decodedInto, encode, encoded};
+ghost use Rattle.xtext.specs.Steps.{kind, kinds, hexcharAt, spelling};
+use octets::Decoded;
+use octets::Encoded;
+use octets::Measured;
+
+// How many octets a text decodes to. It writes nothing.
+pub fn measure(text: &[u8]) -> Measured
+    ensures { λ r. ⌜ r ≡ measured (now (text .entry)) ⌝ }
+{
+    let k = kinds();
+    measure_by(&k, text)
+}
+
+// The same of the part of a line from one index up to another.
+pub fn measure_part(line: &[u8], from: usize, to: usize) -> Measured
+    ensures { λ r. ⌜ r ≡ measured (slice from to (now (line .entry))) ⌝ }
+{
+    measure(octets::part(line, from, to))
+}
+
+// Decodes a text to the start of out. A text that is not xtext, and one whose octets do not fit, leave out as it is.
+pub fn decode(text: &[u8], out: &mut [u8]) -> Decoded
+    ensures { λ r. ⌜ (r ≡ decoded (now (text .entry)) (length (now (out .entry)))) × (now (out .exit) ≡ decodedInto (now (text .entry)) (now (out .entry))) ⌝ }
+{
+    let k = kinds();
+    let m = measure_by(&k, text);
+    match m {
+        Measured::Length(n) => {
+            if n <= out.len() {
+                fill(&k, text, out);
+                return Decoded::Length(n);
+            }
+            return Decoded::Short;
+        }
+        Measured::Malformed => {
+            return Decoded::Malformed;
+        }
+    }
+}
+
+// The same of the part of a line from one index up to another.
+pub fn decode_part(line: &[u8], from: usize, to: usize, out: &mut [u8]) -> Decoded
+    ensures { λ r. ⌜ (r ≡ decoded (slice from to (now (line .entry))) (length (now (out .entry)))) × (now (out .exit) ≡ decodedInto (slice from to (now (line .entry))) (now (out .entry))) ⌝ }
+{
+    decode(octets::part(line, from, to), out)
+}
+
+// Writes the text of some octets into out from index at on. Where it does not fit, out is left as it is.
+pub fn encode(bytes: &[u8], out: &mut [u8], at: usize) -> Encoded
+    ensures { λ r. ⌜ (r ≡ encoded (now (bytes .entry)) (length (now (out .entry))) at) × (now (out .exit) ≡ written (now (out .entry)) at («encode» (now (bytes .entry)))) ⌝ }
+{
+    if out.len() < at {
+        return Encoded::Short;
+    }
+    let room = out.len() - at;
+    if room < bytes.len() {
+        return Encoded::Short;
+    }
+    let k = kinds();
+    if (room - bytes.len()) / 2 < escapes(&k, bytes) {
+        return Encoded::Short;
+    }
+    let d = digits();
+    Encoded::End(spell(&k, &d, bytes, out, at))
+}
+
+// The kinds of all octets. An array is made anew on the stack wherever it is written, so each public function
+// makes it once and lends it to the others.
+fn kinds() -> [u8; 256]
+    ensures { λ r. ⌜ r ≡ «kinds» ⌝ }
+{
+    let t =
+        b"\x11\x11\x11\x11\x11\x11\x11\x11\x11\x11\x11\x11\x11\x11\x11\x11\x11\x11\x11\x11\x11\x11\x11\x11\x11\x11\x11\x11\x11\x11\x11\x11\x11\x10\x10\x10\x10\x10\x10\x10\x10\x10\x10\x11\x10\x10\x10\x10\x00\x01\x02\x03\x04\x05\x06\x07\x08\x09\x10\x10\x10\x11\x10\x10\x10\x0a\x0b\x0c\x0d\x0e\x0f\x10\x10\x10\x10\x10\x10\x10\x10\x10\x10\x10\x10\x10\x10\x10\x10\x10\x10\x10\x10\x10\x10\x10\x10\x10\x10\x10\x10\x10\x10\x10\x10\x10\x10\x10\x10\x10\x10\x10\x10\x10\x10\x10\x10\x10\x10\x10\x10\x10\x10\x10\x10\x10\x10\x10\x10\x11\x11\x11\x11\x11\x11\x11\x11\x11\x11\x11\x11\x11\x11\x11\x11\x11\x11\x11\x11\x11\x11\x11\x11\x11\x11\x11\x11\x11\x11\x11\x11\x11\x11\x11\x11\x11\x11\x11\x11\x11\x11\x11\x11\x11\x11\x11\x11\x11\x11\x11\x11\x11\x11\x11\x11\x11\x11\x11\x11\x11\x11\x11\x11\x11\x11\x11\x11\x11\x11\x11\x11\x11\x11\x11\x11\x11\x11\x11\x11\x11\x11\x11\x11\x11\x11\x11\x11\x11\x11\x11\x11\x11\x11\x11\x11\x11\x11\x11\x11\x11\x11\x11\x11\x11\x11\x11\x11\x11\x11\x11\x11\x11\x11\x11\x11\x11\x11\x11\x11\x11\x11\x11\x11\x11\x11\x11\x11\x11";
+    *t
+}
+
+// Below 16 the number of a digit, 16 for any other xchar, 17 for the rest.
+fn kind(k: &[u8; 256], x: u8) -> u8
+    requires { ⌜ now k ≡ «kinds» ⌝ }
+    ensures { λ r. ⌜ r ≡ «kind» x ⌝ }
+{
+    k[x as usize]
+}
+
+fn is_xchar(k: &[u8; 256], x: u8) -> bool
+    requires { ⌜ now k ≡ «kinds» ⌝ }
+    ensures { λ r. ⌜ r ≡ xchar x ⌝ }
+{
+    kind(k, x) < 17
+}
+
+fn is_hexdig(k: &[u8; 256], x: u8) -> bool
+    requires { ⌜ now k ≡ «kinds» ⌝ }
+    ensures { λ r. ⌜ r ≡ hexdig x ⌝ }
+{
+    kind(k, x) < 16
+}
+
+// Whether "+" and two digits stand at an index.
+fn is_hexchar_at(k: &[u8; 256], text: &[u8], i: usize) -> bool
+    requires { ⌜ (i < length (now text)) × (now k ≡ «kinds») ⌝ }
+    ensures { λ r. ⌜ r ≡ hexcharAt (now (text .entry)) i ⌝ }
+{
+    if text.len() - i < 3 {
+        return false;
+    }
+    (text[i] == 43) & is_hexdig(k, text[i + 1]) & is_hexdig(k, text[i + 2])
+}
+
+// A hexchar has two octets more than it stands for. These are counted, so that a turn over an xchar only moves on.
+fn measure_by(k: &[u8; 256], text: &[u8]) -> Measured
+    requires { ⌜ now k ≡ «kinds» ⌝ }
+    ensures { λ r. ⌜ r ≡ measured (now (text .entry)) ⌝ }
+{
+    let mut more: usize = 0;
+    let mut i: usize = 0;
+    while i < text.len() {
+        if is_xchar(k, text[i]) {
+            i += 1;
+            continue;
+        }
+        if !is_hexchar_at(k, text, i) {
+            return Measured::Malformed;
+        }
+        more += 2;
+        i += 3;
+    }
+    Measured::Length(i - more)
+}
+
+// The octet of two digits.
+fn hexchar(k: &[u8; 256], y: u8, z: u8) -> u8
+    requires { ⌜ (number y < 16) × (number z < 16) × (now k ≡ «kinds») ⌝ }
+    ensures { λ r. ⌜ r ≡ «hexchar» y z ⌝ }
+{
+    kind(k, y) * 16 + kind(k, z)
+}
+
+// Writes the octets of a text to the start of out. In a valid text "+" has its two digits.
+fn fill(k: &[u8; 256], text: &[u8], out: &mut [u8])
+    requires { ⌜ (valid (now text) ≡ true) × (length (octets (now text)) ≤ length (now out)) × (now k ≡ «kinds») ⌝ }
+    ensures { λ _. ⌜ now (out .exit) ≡ sets (now (out .entry)) 0 (octets (now (text .entry))) ⌝ }
+{
+    let mut n: usize = 0;
+    let mut i: usize = 0;
+    while i < text.len() {
+        let x = text[i];
+        if x == 43 {
+            out[n] = hexchar(k, text[i + 1], text[i + 2]);
+            i += 3;
+        } else {
+            out[n] = x;
+            i += 1;
+        }
+        n += 1;
+    }
+}
+
+// How many octets are to be escaped. The length of the text itself might not fit a usize: an escape adds two octets.
+fn escapes(k: &[u8; 256], bytes: &[u8]) -> usize
+    requires { ⌜ now k ≡ «kinds» ⌝ }
+    ensures { λ r. ⌜ length (now (bytes .entry)) + r * 2 ≡ length (encode (now (bytes .entry))) ⌝ }
+{
+    let mut n: usize = 0;
+    let mut i: usize = 0;
+    while i < bytes.len() {
+        if !is_xchar(k, bytes[i]) {
+            n += 1;
+        }
+        i += 1;
+    }
+    n
+}
+
+fn digits() -> [u8; 16]
+    ensures { λ r. ⌜ r ≡ «digits» ⌝ }
+{
+    let t = b"0123456789ABCDEF";
+    *t
+}
+
+fn digit(d: &[u8; 16], v: u8) -> u8
+    requires { ⌜ (v < 16) × (now d ≡ «digits») ⌝ }
+    ensures { λ r. ⌜ r ≡ «digit» v ⌝ }
+{
+    d[v as usize]
+}
+
+// Writes an octet as xchar or hexchar, and gives the index after it.
+fn put(k: &[u8; 256], d: &[u8; 16], out: &mut [u8], n: usize, x: u8) -> usize
+    requires { ⌜ (n + length (spelling x) ≤ length (now out)) × (now k ≡ «kinds») × (now d ≡ «digits») ⌝ }
+    ensures { λ r. ⌜ (r ≡ n + length (spelling x)) × (now (out .exit) ≡ sets (now (out .entry)) n (spelling x)) ⌝ }
+{
+    if is_xchar(k, x) {
+        out[n] = x;
+        return n + 1;
+    }
+    out[n] = 43;
+    out[n + 1] = digit(d, x / 16);
+    out[n + 2] = digit(d, x % 16);
+    n + 3
+}
+
+// Writes the text of some octets into out from index at on, and gives the index after it.
+fn spell(k: &[u8; 256], d: &[u8; 16], bytes: &[u8], out: &mut [u8], at: usize) -> usize
+    requires { ⌜ (at + length (encode (now bytes)) ≤ length (now out)) × (now k ≡ «kinds») × (now d ≡ «digits») ⌝ }
+    ensures { λ r. ⌜ (r ≡ at + length (encode (now (bytes .entry)))) × (now (out .exit) ≡ sets (now (out .entry)) at (encode (now (bytes .entry)))) ⌝ }
+{
+    let mut n = at;
+    let mut i: usize = 0;
+    while i < bytes.len() {
+        n = put(k, d, out, n, bytes[i]);
+        i += 1;
+    }
+    n
+}
