@@ -3,16 +3,13 @@ use crate::form::Form;
 use crate::rows;
 use crate::rows::decode_into;
 use crate::rows::encode_into;
+use crate::rows::read_each;
 use crate::rows::read_part;
 use crate::rows::text_of;
 use crate::show;
 use crate::show::number;
 use crate::show::put;
 use crate::show::quoted;
-
-fn read(text: &[u8]) {
-    rows::read(Form::Base64, text);
-}
 
 // A vector as RFC 4648 section 10 writes it.
 fn vector(bytes: &[u8]) {
@@ -43,41 +40,18 @@ fn papers() {
     vector(b"foob");
     vector(b"fooba");
     vector(b"foobar");
-    read(b"");
-    read(b"Zg==");
-    read(b"Zm8=");
-    read(b"Zm9v");
-    read(b"Zm9vYg==");
-    read(b"Zm9vYmE=");
-    read(b"Zm9vYmFy");
-    read(b"dGVzdAB0ZXN0ADEyMzQ=");
-    read(b"cmpzMyBlYzNhNTlmZWQzOTVhYmExZWM2MzY3YzRmNGI0MWFjMA==");
-    read(b"dGVzdAB0ZXN0AHRlc3Q=");
-    read(b"QUIT");
+    read_each(
+        Form::Base64,
+        b"|Zg==|Zm8=|Zm9v|Zm9vYg==|Zm9vYmE=|Zm9vYmFy|dGVzdAB0ZXN0ADEyMzQ=|cmpzMyBlYzNhNTlmZWQzOTVhYmExZWM2MzY3YzRmNGI0MWFjMA==|dGVzdAB0ZXN0AHRlc3Q=|QUIT",
+    );
 }
 
 // Not base64: unused bits, "=" elsewhere than at the end, another length, another octet.
 fn near_misses() {
-    read(b"Zh==");
-    read(b"Zm9=");
-    read(b"=AAA");
-    read(b"=");
-    read(b"====");
-    read(b"A===");
-    read(b"AA=A");
-    read(b"AAA=BBB");
-    read(b"AAA=BBBB");
-    read(b"AA==AAAA");
-    read(b"AAAAA");
-    read(b"AAAAAA");
-    read(b"Zm9");
-    read(b"Zm9v ");
-    read(b"Zm9v\r\n");
-    read(b"Zm\x009");
-    read(b"Zm9-");
-    read(b"Zm9_");
-    read(b"Zm9\xff");
-    read(b"*");
+    read_each(
+        Form::Base64,
+        b"Zh==|Zm9=|=AAA|=|====|A===|AA=A|AAA=BBB|AAA=BBBB|AA==AAAA|AAAAA|AAAAAA|Zm9|Zm9v |Zm9v\r\n|Zm\x009|Zm9-|Zm9_|Zm9\xff|*",
+    );
 }
 
 fn buffers() {

@@ -25,7 +25,7 @@ pub fn text_of(f: Form, bytes: &[u8]) {
 }
 
 // A text: how many octets it stands for, which, and their text.
-pub fn read(f: Form, text: &[u8]) {
+fn read(f: Form, text: &[u8]) {
     let mut out = [0u8; 64];
     show::form(f);
     put(b" ");
@@ -46,6 +46,20 @@ pub fn read(f: Form, text: &[u8]) {
         }
     }
     put(b"\n");
+}
+
+// Each text of a list, with "|" between them.
+pub fn read_each(f: Form, list: &[u8]) {
+    let mut from: usize = 0;
+    let mut i: usize = 0;
+    while i < list.len() {
+        if list[i] == 124 {
+            read(f, octets::part(list, from, i));
+            from = i + 1;
+        }
+        i += 1;
+    }
+    read(f, octets::part(list, from, i));
 }
 
 // A part of a line, decoded into a row of dots.

@@ -3,44 +3,22 @@ use crate::form::Form;
 use crate::rows;
 use crate::rows::decode_into;
 use crate::rows::encode_into;
+use crate::rows::read_each;
 use crate::rows::read_part;
 
-fn read(text: &[u8]) {
-    rows::read(Form::Xtext, text);
-}
-
 fn texts() {
-    read(b"e+3Dmc2@example.com");
-    read(b"");
-    read(b"<>");
-    read(b"+3C+3E");
-    read(b"+2B");
-    read(b"+61");
-    read(b"+3D+41+42");
-    read(b"+00+0A+FF");
-    read(b"!*,<>~");
+    read_each(
+        Form::Xtext,
+        b"e+3Dmc2@example.com||<>|+3C+3E|+2B|+61|+3D+41+42|+00+0A+FF|!*,<>~",
+    );
 }
 
 // Not xtext: small digits, what must be escaped, an escape cut short, no digits.
 fn near_misses() {
-    read(b"+3d");
-    read(b"+3D+4a");
-    read(b"e=mc2@example.com");
-    read(b"a b");
-    read(b"a\r\n");
-    read(b"a\x00");
-    read(b"a\x7f");
-    read(b"a\xff");
-    read(b"+");
-    read(b"+3");
-    read(b"a+");
-    read(b"a+3");
-    read(b"++3D");
-    read(b"+G0");
-    read(b"+0G");
-    read(b"+0/");
-    read(b"+:0");
-    read(b"+@0");
+    read_each(
+        Form::Xtext,
+        b"+3d|+3D+4a|e=mc2@example.com|a b|a\r\n|a\x00|a\x7f|a\xff|+|+3|a+|a+3|++3D|+G0|+0G|+0/|+:0|+@0",
+    );
 }
 
 fn buffers() {
