@@ -109,7 +109,7 @@ fn is_hexchar_at(k: &[u8; 256], text: &[u8], i: usize) -> bool
     requires { ⌜ (i < length (now text)) × (now k ≡ «kinds») ⌝ }
     ensures { λ r. ⌜ r ≡ hexcharAt (now (text .entry)) i ⌝ }
 {
-    if text.len() - i < 3 {
+    if text.len() <= i + 2 {
         return false;
     }
     (text[i] == 43) & is_hexdig(k, text[i + 1]) & is_hexdig(k, text[i + 2])
@@ -123,15 +123,14 @@ fn measure_by(k: &[u8; 256], text: &[u8]) -> Measured
     let mut more: usize = 0;
     let mut i: usize = 0;
     while i < text.len() {
-        if is_xchar(k, text[i]) {
-            i += 1;
-            continue;
+        if !is_xchar(k, text[i]) {
+            if !is_hexchar_at(k, text, i) {
+                return Measured::Malformed;
+            }
+            more += 2;
+            i += 2;
         }
-        if !is_hexchar_at(k, text, i) {
-            return Measured::Malformed;
-        }
-        more += 2;
-        i += 3;
+        i += 1;
     }
     Measured::Length(i - more)
 }

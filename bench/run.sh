@@ -1,0 +1,171 @@
+#!/bin/sh
+# Measures the proved base64 and xtext beside plain C, and beside the base64 of the libraries that are installed.
+#   bench/run.sh          prints the tables: instructions, then times, as ratios to plain C
+#   bench/run.sh check    only compares the answers and buffers with those of plain C
+#   bench/run.sh limit    compares, and counts instructions: fails where the proved one takes more than
+#                         LIMIT (1.15) of plain C's at 64 letters or more
+# ROUNDS (60) is the number of rounds that a time is the median of. Needs rt and gcc; what else is missing is said and left out.
+set -eu
+
+here=$(cd "$(dirname "$0")" && pwd)
+root=$(dirname "$here")
+out=$root/target/bench
+forms='base64 xtext'
+mode=${1:-tables}
+case $mode in
+tables | check | limit) ;;
+*)
+    echo 'usage: bench/run.sh [check | limit]' >&2
+    exit 2
+    ;;
+esac
+
+# has NAME HEADER CFLAGS LIBS: compiles it in if a program with this header links
+flags=''
+libs=''
+has() {
+    if printf '#include <%s>\nint main(void) { return 0; }\n' "$2" | gcc $3 -x c - -o "$out/probe" $4 >"$out/probe.log" 2>&1; then
+        flags="$flags -DHAVE_$1 $3"
+        libs="$libs $4"
+    else
+        echo "run.sh: left out, not installed: $1"
+    fi
+}
+
+build() {
+    mkdir -p "$out"
+    if ! (cd "$root" && rt staticlib benchface) >"$out/staticlib.log" 2>&1; then
+        tail -n 20 "$out/staticlib.log" >&2
+        echo "run.sh: rt staticlib benchface failed; $out/staticlib.log has it whole" >&2
+        exit 2
+    fi
+    has VALGRIND valgrind/callgrind.h '' ''
+    has OPENSSL openssl/evp.h '' -lcrypto
+    has GSASL gsasl.h '' -lgsasl
+    has GLIB glib.h "$(pkg-config --cflags glib-2.0 2>/dev/null || :)" "$(pkg-config --libs glib-2.0 2>/dev/null || :)"
+    for form in $forms; do
+        gcc -std=c11 -O2 -Wall -Wextra $flags -o "$out/$form" "$here/$form.c" "$here/plain_$form.c" "$here/harness.c" \
+            "$root/target/staticlib/libbenchface.a" $libs
+    done
+}
+
+can_count() {
+    case $flags in
+    *HAVE_VALGRIND*) command -v valgrind >/dev/null ;;
+    *) false ;;
+    esac
+}
+
+# lines as of FORM time: function, kind, letters, row, ratio to plain C, instructions
+count() {
+    rm -rf "$out/dumps"
+    mkdir "$out/dumps"
+    if ! valgrind --tool=callgrind --callgrind-out-file="$out/dumps/out" "$out/$1" insn >"$out/dumps/log" 2>&1; then
+        cat "$out/dumps/log" >&2
+        exit 1
+    fi
+    # dumps are numbered from 1 on; the last one, of the program's end, has no label
+    for dump in $(ls "$out/dumps" | grep '^out\.' | sort -t. -k2 -n); do
+        awk '
+            /^desc: Trigger:/ { split($0, label, "@") }
+            /^(totals|summary):/ { total = $2 }
+            END { if (label[2] != "") printf "%s\t%s\t%s\t%s\t%d\n", label[2], label[3], label[4], label[5], total / label[6] }
+        ' "$out/dumps/$dump"
+    done | awk -F'\t' '
+        { line[NR] = $0; count[NR] = $5; base[NR] = $1 FS $2 FS $3 }
+        $4 == "plain C" { plain[base[NR]] = $5 }
+        END {
+            for (i = 1; i <= NR; i++) {
+                split(line[i], f, FS)
+                printf "%s\t%s\t%s\t%s\t%.3f\t%d\n", f[1], f[2], f[3], f[4], count[i] / plain[base[i]], count[i]
+            }
+        }'
+}
+
+# a table for each function: a row for each kind and contender, a column for each length
+print_tables() {
+    awk -F'\t' -v form="$1" -v unit="$2" '
+        function cells(key, field,    j, s) {
+            s = ""
+            for (j = 1; j <= lengths; j++) s = s sprintf(" %9s |", field[key, length_at[j]])
+            return s
+        }
+        !($3 in known_length) { known_length[$3]; length_at[++lengths] = $3 }
+        !($1 in known_function) { known_function[$1]; function_at[++functions] = $1 }
+        {
+            key = $1 FS $2 FS $4
+            if (!(key in known_key)) { known_key[key]; key_at[++keys] = key }
+            ratio[key, $3] = sprintf("%.2f", $5)
+            amount[key, $3] = sprintf(unit == "ns" ? "%.1f" : "%d", $6)
+        }
+        END {
+            for (k = 1; k <= functions; k++) {
+                printf "\n| %-15s | %-21s |", form " " function_at[k], "letters:"
+                for (j = 1; j <= lengths; j++) printf " %9s |", length_at[j]
+                printf "\n|%s|%s|", "---", "---"
+                for (j = 1; j <= lengths; j++) printf "---:|"
+                printf "\n"
+                for (i = 1; i <= keys; i++) {
+                    split(key_at[i], f, FS)
+                    if (f[1] != function_at[k]) continue
+                    if (f[3] == "plain C") printf "| %-15s | %-21s |%s\n", f[2], "plain C, " unit, cells(key_at[i], amount)
+                    else printf "| %-15s | %-21s |%s\n", f[2], f[3], cells(key_at[i], ratio)
+                }
+            }
+        }'
+}
+
+# fails where the proved one takes too many instructions
+judge() {
+    awk -F'\t' -v form="$1" -v limit="${LIMIT:-1.15}" '
+        $4 == "proved" && $3 >= 64 {
+            judged++
+            if ($5 > most) most = $5
+            if ($5 > limit) {
+                bad++
+                printf "TOO SLOW %s %s, %s, %s letters: %.3f of plain C\n", form, $1, $2, $3, $5
+            }
+        }
+        END {
+            printf "%s limit: %d of %d above %s of plain C; the most is %.3f\n", form, bad, judged, limit, most
+            exit bad > 0 || judged == 0
+        }'
+}
+
+build
+
+status=0
+for form in $forms; do
+    "$out/$form" check || status=1
+done
+if [ "$mode" = check ] || [ $status -ne 0 ]; then
+    exit $status
+fi
+
+if can_count; then
+    if [ "$mode" = tables ]; then
+        printf '\nInstructions of a call, as a ratio to plain C\n'
+    fi
+    for form in $forms; do
+        count "$form" >"$out/$form.insn"
+        if [ "$mode" = limit ]; then
+            judge "$form" <"$out/$form.insn" || status=1
+        else
+            print_tables "$form" instructions <"$out/$form.insn"
+        fi
+    done
+else
+    echo 'run.sh: valgrind or its headers are missing, so instructions are not counted'
+    if [ "$mode" = limit ]; then
+        exit 2
+    fi
+fi
+
+if [ "$mode" = tables ]; then
+    printf '\nTime of a call, as a ratio to plain C\n'
+    for form in $forms; do
+        "$out/$form" time >"$out/$form.time"
+        print_tables "$form" ns <"$out/$form.time"
+    done
+fi
+exit $status

@@ -1,0 +1,2 @@
+-- The definitions that the contracts of benchface cite.
+pub mod Numbers
