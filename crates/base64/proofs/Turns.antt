@@ -11,7 +11,7 @@ use Rattle.octets.specs.declared.Measured.{Measured}
 use Rattle.octets.proofs.Answers.{resumed, resumed-zero}
 use Rattle.octets.proofs.Lists.{drop-four, sets-append}
 use Rattle.base64.specs.Base64.{value, joined, letters, three, octetsOf, isEmpty, follows, valid, octets, measured}
-use Rattle.base64.specs.Places.{groupAt, lettersAt}
+use Rattle.base64.specs.Private.{groupAt, lettersAt, last}
 use Rattle.base64.specs.declared.Group.{Group}
 use Rattle.base64.specs.declared.Group.the-variants.{One, Two, Three, Bad}
 use Rattle.base64.proofs.Groups.{as-three, letters-are, Cases, is-three, cases}
@@ -55,11 +55,17 @@ module _ (t : List ℕ) (i : ℕ) (h : i + 4 ≤ length t) where
   octets-turn = rw (drop-four t i h)
 
 -- the last group
-pub went : (t : List ℕ) (i n : ℕ) (r g : Group) → from n (drop i t) ≡ measured t → r ≡ groupAt t i → r ≡ g → i + 4 ≤ length t → after g n (drop (i + 4) t) ≡ measured t
-went t i n r g inv e f h = ap (λ (x : Group). after x n (drop (i + 4) t)) (sym f ∙ e) ∙ sym (turn t i h n) ∙ inv
+last-after : (n : ℕ) (g : Group) → last n g ≡ after g n []
+unfolding valid octets
+last-after n (One x) = refl
+last-after n (Two x y) = refl
+last-after n (Three x y z) = rw add-zero
+last-after n Bad = refl
 
-pub empty-end : (t : List ℕ) (i : ℕ) → length t ≤ i → isEmpty (drop i t) ≡ true
-empty-end t i h = ap isEmpty (drop-of-length-le t h)
+pub went : (t : List ℕ) (i n : ℕ) (g : Group) → from n (drop i t) ≡ measured t → g ≡ groupAt t i → i + 4 ≡ length t → last n g ≡ measured t
+went t i n g inv e h =
+    let d : drop (i + 4) t ≡ [] = drop-of-length-le t {i = i + 4} (omega arith) in
+    last-after n g ∙ ap (λ (l : List ℕ). after g n l) (sym d) ∙ ap (λ (x : Group). after x n (drop (i + 4) t)) e ∙ sym (turn t i (omega arith) n) ∙ inv
 
 empty-not : (t : List ℕ) (i : ℕ) → i < length t → isEmpty (drop i t) ≡ false
 empty-not t i h = ap isEmpty (drop-cons t i 0 h)

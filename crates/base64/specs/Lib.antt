@@ -1,3 +1,3 @@
--- The definitions that the contracts of base64 cite.
+-- The definitions that the promises of base64 cite.
 pub mod Base64
-pub mod Places
+pub mod Private

@@ -2,12 +2,12 @@
 ghost use mathlib.Core.Path.{_≡_};
 ghost use mathlib.Core.Bool.{true};
 ghost use mathlib.Core.List.{_∷_, []};
-ghost use Prim.Native.Nat.{_+_, _≤_, _<_};
+ghost use Prim.Native.Nat.{_+_, _^_, _≤_, _<_};
 ghost use lib.ListN.{length};
 ghost use lib.Seq.{sets, slice};
 ghost use Rattle.octets.specs.Answers.{written};
 ghost use Rattle.base64.specs.Base64.{alphabet, letter, value, bits, quad1, quad2, quad3, encode, joined, letters, letters3, letters2, three, two, one, groupOf, octetsOf, valid, octets, measured, decoded, decodedInto, encoded};
-ghost use Rattle.base64.specs.Places.{values, groupAt, lettersAt};
+ghost use Rattle.base64.specs.Private.{values, groupAt, lettersAt, last};
 use octets::Decoded;
 use octets::Encoded;
 use octets::Measured;
@@ -80,7 +80,7 @@ pub fn encode(bytes: &[u8], out: &mut [u8], at: usize) -> Encoded
 // The numbers of all octets. An array is made anew on the stack wherever it is written, so each public function
 // makes it once and lends it to the others.
 fn values() -> [u8; 256]
-    ensures { λ r. ⌜ r ≡ «values» ⌝ }
+    ensures { λ r. ⌜ r ≡ values ⌝ }
 {
     let t =
         b"\x40\x40\x40\x40\x40\x40\x40\x40\x40\x40\x40\x40\x40\x40\x40\x40\x40\x40\x40\x40\x40\x40\x40\x40\x40\x40\x40\x40\x40\x40\x40\x40\x40\x40\x40\x40\x40\x40\x40\x40\x40\x40\x40\x3e\x40\x40\x40\x3f\x34\x35\x36\x37\x38\x39\x3a\x3b\x3c\x3d\x40\x40\x40\x40\x40\x40\x40\x00\x01\x02\x03\x04\x05\x06\x07\x08\x09\x0a\x0b\x0c\x0d\x0e\x0f\x10\x11\x12\x13\x14\x15\x16\x17\x18\x19\x40\x40\x40\x40\x40\x40\x1a\x1b\x1c\x1d\x1e\x1f\x20\x21\x22\x23\x24\x25\x26\x27\x28\x29\x2a\x2b\x2c\x2d\x2e\x2f\x30\x31\x32\x33\x40\x40\x40\x40\x40\x40\x40\x40\x40\x40\x40\x40\x40\x40\x40\x40\x40\x40\x40\x40\x40\x40\x40\x40\x40\x40\x40\x40\x40\x40\x40\x40\x40\x40\x40\x40\x40\x40\x40\x40\x40\x40\x40\x40\x40\x40\x40\x40\x40\x40\x40\x40\x40\x40\x40\x40\x40\x40\x40\x40\x40\x40\x40\x40\x40\x40\x40\x40\x40\x40\x40\x40\x40\x40\x40\x40\x40\x40\x40\x40\x40\x40\x40\x40\x40\x40\x40\x40\x40\x40\x40\x40\x40\x40\x40\x40\x40\x40\x40\x40\x40\x40\x40\x40\x40\x40\x40\x40\x40\x40\x40\x40\x40\x40\x40\x40\x40\x40\x40\x40\x40\x40\x40\x40\x40\x40\x40\x40\x40\x40\x40\x40\x40";
@@ -89,22 +89,22 @@ fn values() -> [u8; 256]
 
 // The number of a letter, and 64 of any other octet.
 fn value(k: &[u8; 256], x: u8) -> u8
-    requires { ⌜ now k ≡ «values» ⌝ }
-    ensures { λ r. ⌜ r ≡ «value» x ⌝ }
+    requires { ⌜ now k ≡ values ⌝ }
+    ensures { λ r. ⌜ r ≡ value x ⌝ }
 {
     k[x as usize]
 }
 
 // Four 6-bit groups as 24 bits.
 fn joined(p: u8, q: u8, r: u8, s: u8) -> usize
-    ensures { λ w. ⌜ w ≡ «joined» p q r s ⌝ }
+    ensures { λ w. ⌜ w ≡ joined p q r s ⌝ }
 {
     p as usize * 262144 + q as usize * 4096 + r as usize * 64 + s as usize
 }
 
 // Three octets, two or one of 24 bits.
 fn three(w: usize) -> Group
-    ensures { λ g. ⌜ g ≡ «three» w ⌝ }
+    ensures { λ g. ⌜ g ≡ three w ⌝ }
 {
     Group::Three(
         (w / 65536 % 256) as u8,
@@ -114,40 +114,41 @@ fn three(w: usize) -> Group
 }
 
 fn two(w: usize) -> Group
-    ensures { λ g. ⌜ g ≡ «two» w ⌝ }
+    ensures { λ g. ⌜ g ≡ two w ⌝ }
 {
     Group::Two((w / 65536 % 256) as u8, (w / 256 % 256) as u8)
 }
 
 fn one(w: usize) -> Group
-    ensures { λ g. ⌜ g ≡ «one» w ⌝ }
+    ensures { λ g. ⌜ g ≡ one w ⌝ }
 {
     Group::One((w / 65536 % 256) as u8)
 }
 
 // Four letters, by their numbers; three and "="; two and "==". The unused bits must be zero.
 fn letters(p: u8, q: u8, r: u8, s: u8) -> bool
-    ensures { λ x. ⌜ x ≡ «letters» p q r s ⌝ }
+    ensures { λ x. ⌜ x ≡ letters p q r s ⌝ }
 {
     (p < 64) & (q < 64) & (r < 64) & (s < 64)
 }
 
 fn letters3(p: u8, q: u8, r: u8, d: u8) -> bool
-    ensures { λ x. ⌜ x ≡ «letters3» p q r d ⌝ }
+    ensures { λ x. ⌜ x ≡ letters3 p q r d ⌝ }
 {
     let w = joined(p, q, r, 0);
-    (p < 64) & (q < 64) & (r < 64) & (d == 61) & (w % 256 == 0)
+    (p < 64) & (q < 64) & (r < 64) & (d == b'=') & (w % 256 == 0)
 }
 
 fn letters2(p: u8, q: u8, c: u8, d: u8) -> bool
-    ensures { λ x. ⌜ x ≡ «letters2» p q c d ⌝ }
+    ensures { λ x. ⌜ x ≡ letters2 p q c d ⌝ }
 {
     let w = joined(p, q, 0, 0);
-    (p < 64) & (q < 64) & (c == 61) & (d == 61) & (w % 65536 == 0)
+    (p < 64) & (q < 64) & (c == b'=') & (d == b'=') & (w % 65536 == 0)
 }
 
+// What four octets of text stand for.
 fn group_of(k: &[u8; 256], a: u8, b: u8, c: u8, d: u8) -> Group
-    requires { ⌜ now k ≡ «values» ⌝ }
+    requires { ⌜ now k ≡ values ⌝ }
     ensures { λ g. ⌜ g ≡ groupOf a b c d ⌝ }
 {
     let p = value(k, a);
@@ -166,15 +167,17 @@ fn group_of(k: &[u8; 256], a: u8, b: u8, c: u8, d: u8) -> Group
     Group::Bad
 }
 
+// The group at index i.
 fn group_at(k: &[u8; 256], text: &[u8], i: usize) -> Group
-    requires { ⌜ (i + 4 ≤ length (now text)) × (now k ≡ «values») ⌝ }
+    requires { ⌜ (i + 4 ≤ length (now text)) × (now k ≡ values) ⌝ }
     ensures { λ r. ⌜ r ≡ groupAt (now (text .entry)) i ⌝ }
 {
     group_of(k, text[i], text[i + 1], text[i + 2], text[i + 3])
 }
 
+// Whether the group at index i is four letters.
 fn letters_at(k: &[u8; 256], text: &[u8], i: usize) -> bool
-    requires { ⌜ (i + 4 ≤ length (now text)) × (now k ≡ «values») ⌝ }
+    requires { ⌜ (i + 4 ≤ length (now text)) × (now k ≡ values) ⌝ }
     ensures { λ r. ⌜ r ≡ lettersAt (now (text .entry)) i ⌝ }
 {
     letters(
@@ -185,9 +188,9 @@ fn letters_at(k: &[u8; 256], text: &[u8], i: usize) -> bool
     )
 }
 
-// The group at i where it is four letters.
+// The group at index i, which is four letters.
 fn three_at(k: &[u8; 256], text: &[u8], i: usize) -> Group
-    requires { ⌜ (i + 4 ≤ length (now text)) × (now k ≡ «values») × (lettersAt (now text) i ≡ true) ⌝ }
+    requires { ⌜ (i + 4 ≤ length (now text)) × (now k ≡ values) × (lettersAt (now text) i ≡ true) ⌝ }
     ensures { λ r. ⌜ r ≡ groupAt (now (text .entry)) i ⌝ }
 {
     three(joined(
@@ -200,7 +203,7 @@ fn three_at(k: &[u8; 256], text: &[u8], i: usize) -> Group
 
 // Every group but the last must be four letters.
 fn measure_by(k: &[u8; 256], text: &[u8]) -> Measured
-    requires { ⌜ now k ≡ «values» ⌝ }
+    requires { ⌜ now k ≡ values ⌝ }
     ensures { λ r. ⌜ r ≡ measured (now (text .entry)) ⌝ }
 {
     let size = text.len();
@@ -220,20 +223,19 @@ fn measure_by(k: &[u8; 256], text: &[u8]) -> Measured
     if size - i < 4 {
         return Measured::Malformed;
     }
-    let g = group_at(k, text, i);
+    last(n, group_at(k, text, i))
+}
+
+// The measure of a text with n octets before its last group.
+fn last(n: usize, g: Group) -> Measured
+    requires { ⌜ n + 3 < 2 ^ 64 ⌝ }
+    ensures { λ r. ⌜ r ≡ last n g ⌝ }
+{
     match g {
-        Group::Three(_, _, _) => {
-            return Measured::Length(n + 3);
-        }
-        Group::Two(_, _) => {
-            return Measured::Length(n + 2);
-        }
-        Group::One(_) => {
-            return Measured::Length(n + 1);
-        }
-        Group::Bad => {
-            return Measured::Malformed;
-        }
+        Group::Three(_, _, _) => Measured::Length(n + 3),
+        Group::Two(_, _) => Measured::Length(n + 2),
+        Group::One(_) => Measured::Length(n + 1),
+        Group::Bad => Measured::Malformed,
     }
 }
 
@@ -266,7 +268,7 @@ fn put(out: &mut [u8], n: usize, g: Group) -> usize
 
 // Writes the octets of a text to the start of out.
 fn fill(k: &[u8; 256], text: &[u8], out: &mut [u8])
-    requires { ⌜ (valid (now text) ≡ true) × (length (octets (now text)) ≤ length (now out)) × (now k ≡ «values») ⌝ }
+    requires { ⌜ (valid (now text) ≡ true) × (length (octets (now text)) ≤ length (now out)) × (now k ≡ values) ⌝ }
     ensures { λ _. ⌜ now (out .exit) ≡ sets (now (out .entry)) 0 (octets (now (text .entry))) ⌝ }
 {
     let size = text.len();
@@ -285,22 +287,23 @@ fn fill(k: &[u8; 256], text: &[u8], out: &mut [u8])
 
 // The alphabet, made once by encode and lent, as values is.
 fn alphabet() -> [u8; 64]
-    ensures { λ r. ⌜ r ≡ «alphabet» ⌝ }
+    ensures { λ r. ⌜ r ≡ alphabet ⌝ }
 {
     let t = b"ABCDEFGHIJKLMNOPQRSTUVWXYZabcdefghijklmnopqrstuvwxyz0123456789+/";
     *t
 }
 
+// The letter of a number.
 fn letter(k: &[u8; 64], v: usize) -> u8
-    requires { ⌜ (v < 64) × (now k ≡ «alphabet») ⌝ }
-    ensures { λ r. ⌜ r ≡ «letter» v ⌝ }
+    requires { ⌜ (v < 64) × (now k ≡ alphabet) ⌝ }
+    ensures { λ r. ⌜ r ≡ letter v ⌝ }
 {
     k[v]
 }
 
 // Three octets as 24 bits.
 fn bits(a: u8, b: u8, c: u8) -> usize
-    ensures { λ w. ⌜ w ≡ «bits» a b c ⌝ }
+    ensures { λ w. ⌜ w ≡ bits a b c ⌝ }
 {
     a as usize * 65536 + b as usize * 256 + c as usize
 }
@@ -317,29 +320,30 @@ fn put4(out: &mut [u8], n: usize, p: u8, q: u8, r: u8, s: u8) -> usize
     n + 4
 }
 
+// Writes the text of one octet, of two, of three, at index n of out, and gives the next index.
 fn put_quad1(k: &[u8; 64], out: &mut [u8], n: usize, a: u8) -> usize
-    requires { ⌜ (n + 4 ≤ length (now out)) × (now k ≡ «alphabet») ⌝ }
+    requires { ⌜ (n + 4 ≤ length (now out)) × (now k ≡ alphabet) ⌝ }
     ensures { λ x. ⌜ (x ≡ n + 4) × (now (out .exit) ≡ sets (now (out .entry)) n (quad1 a)) ⌝ }
 {
     let w = bits(a, 0, 0);
     let p = letter(k, w / 262144 % 64);
     let q = letter(k, w / 4096 % 64);
-    put4(out, n, p, q, 61, 61)
+    put4(out, n, p, q, b'=', b'=')
 }
 
 fn put_quad2(k: &[u8; 64], out: &mut [u8], n: usize, a: u8, b: u8) -> usize
-    requires { ⌜ (n + 4 ≤ length (now out)) × (now k ≡ «alphabet») ⌝ }
+    requires { ⌜ (n + 4 ≤ length (now out)) × (now k ≡ alphabet) ⌝ }
     ensures { λ x. ⌜ (x ≡ n + 4) × (now (out .exit) ≡ sets (now (out .entry)) n (quad2 a b)) ⌝ }
 {
     let w = bits(a, b, 0);
     let p = letter(k, w / 262144 % 64);
     let q = letter(k, w / 4096 % 64);
     let r = letter(k, w / 64 % 64);
-    put4(out, n, p, q, r, 61)
+    put4(out, n, p, q, r, b'=')
 }
 
 fn put_quad3(k: &[u8; 64], out: &mut [u8], n: usize, a: u8, b: u8, c: u8) -> usize
-    requires { ⌜ (n + 4 ≤ length (now out)) × (now k ≡ «alphabet») ⌝ }
+    requires { ⌜ (n + 4 ≤ length (now out)) × (now k ≡ alphabet) ⌝ }
     ensures { λ x. ⌜ (x ≡ n + 4) × (now (out .exit) ≡ sets (now (out .entry)) n (quad3 a b c)) ⌝ }
 {
     let w = bits(a, b, c);
@@ -352,7 +356,7 @@ fn put_quad3(k: &[u8; 64], out: &mut [u8], n: usize, a: u8, b: u8, c: u8) -> usi
 
 // Writes the text of some octets into out from index at on, and gives the index after it.
 fn spell(k: &[u8; 64], bytes: &[u8], out: &mut [u8], at: usize) -> usize
-    requires { ⌜ (at + length (encode (now bytes)) ≤ length (now out)) × (now k ≡ «alphabet») ⌝ }
+    requires { ⌜ (at + length (encode (now bytes)) ≤ length (now out)) × (now k ≡ alphabet) ⌝ }
     ensures { λ r. ⌜ (r ≡ at + length (encode (now (bytes .entry)))) × (now (out .exit) ≡ sets (now (out .entry)) at (encode (now (bytes .entry)))) ⌝ }
 {
     let mut n = at;

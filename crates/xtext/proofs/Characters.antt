@@ -12,7 +12,7 @@ use Rattle.octets.proofs.Table.{at}
 use Rattle.octets.proofs.Cases.{T-true}
 use Rattle.octets.proofs.Alphabet.{getD-index, index-getD, index-most}
 use Rattle.xtext.specs.Xtext.{xchar, digits, digit, number, hexdig, hexchar, plus}
-use Rattle.xtext.specs.Steps.{kind, hexcharAt}
+use Rattle.xtext.specs.Private.{kind, hexcharAt}
 
 -- a digit and its number
 pub number-digit : (v : ℕ) → v < 16 → number (digit v) ≡ v

@@ -14,7 +14,7 @@ use Rattle.octets.proofs.Answers.{resumed, one-more}
 use Rattle.octets.proofs.Cases.{below, both, split}
 use Rattle.octets.proofs.Lists.{drop-three}
 use Rattle.xtext.specs.Xtext.{xchar, digit, number, hexdig, hexchar, plus, valid, octets, measured, encode}
-use Rattle.xtext.specs.Steps.{hexcharAt, spelling}
+use Rattle.xtext.specs.Private.{hexcharAt, spelling}
 use Rattle.xtext.proofs.Characters.{xchar-not-plus, no-end}
 use Rattle.xtext.proofs.Grammar.{Xtext, none, self, escape, valid-self, octets-self, encode-self, encode-escape}
 

@@ -1,3 +1,3 @@
--- The definitions that the contracts of xtext cite.
+-- The definitions that the promises of xtext cite.
 pub mod Xtext
-pub mod Steps
+pub mod Private

@@ -6,7 +6,7 @@ ghost use lib.ListN.{length};
 ghost use lib.Seq.{sets, slice};
 ghost use Rattle.octets.specs.Answers.{written};
 ghost use Rattle.xtext.specs.Xtext.{xchar, digits, digit, number, hexdig, hexchar, octets, valid, measured, decoded, decodedInto, encode, encoded};
-ghost use Rattle.xtext.specs.Steps.{kind, kinds, hexcharAt, spelling};
+ghost use Rattle.xtext.specs.Private.{kind, kinds, hexcharAt, spelling};
 use octets::Decoded;
 use octets::Encoded;
 use octets::Measured;
@@ -55,7 +55,7 @@ pub fn decode_part(line: &[u8], from: usize, to: usize, out: &mut [u8]) -> Decod
 
 // Writes the text of some octets into out from index at on. Where it does not fit, out is left as it is.
 pub fn encode(bytes: &[u8], out: &mut [u8], at: usize) -> Encoded
-    ensures { λ r. ⌜ (r ≡ encoded (now (bytes .entry)) (length (now (out .entry))) at) × (now (out .exit) ≡ written (now (out .entry)) at («encode» (now (bytes .entry)))) ⌝ }
+    ensures { λ r. ⌜ (r ≡ encoded (now (bytes .entry)) (length (now (out .entry))) at) × (now (out .exit) ≡ written (now (out .entry)) at (encode (now (bytes .entry)))) ⌝ }
 {
     if out.len() < at {
         return Encoded::Short;
@@ -75,7 +75,7 @@ pub fn encode(bytes: &[u8], out: &mut [u8], at: usize) -> Encoded
 // The kinds of all octets. An array is made anew on the stack wherever it is written, so each public function
 // makes it once and lends it to the others.
 fn kinds() -> [u8; 256]
-    ensures { λ r. ⌜ r ≡ «kinds» ⌝ }
+    ensures { λ r. ⌜ r ≡ kinds ⌝ }
 {
     let t =
         b"\x11\x11\x11\x11\x11\x11\x11\x11\x11\x11\x11\x11\x11\x11\x11\x11\x11\x11\x11\x11\x11\x11\x11\x11\x11\x11\x11\x11\x11\x11\x11\x11\x11\x10\x10\x10\x10\x10\x10\x10\x10\x10\x10\x11\x10\x10\x10\x10\x00\x01\x02\x03\x04\x05\x06\x07\x08\x09\x10\x10\x10\x11\x10\x10\x10\x0a\x0b\x0c\x0d\x0e\x0f\x10\x10\x10\x10\x10\x10\x10\x10\x10\x10\x10\x10\x10\x10\x10\x10\x10\x10\x10\x10\x10\x10\x10\x10\x10\x10\x10\x10\x10\x10\x10\x10\x10\x10\x10\x10\x10\x10\x10\x10\x10\x10\x10\x10\x10\x10\x10\x10\x10\x10\x10\x10\x10\x10\x10\x10\x11\x11\x11\x11\x11\x11\x11\x11\x11\x11\x11\x11\x11\x11\x11\x11\x11\x11\x11\x11\x11\x11\x11\x11\x11\x11\x11\x11\x11\x11\x11\x11\x11\x11\x11\x11\x11\x11\x11\x11\x11\x11\x11\x11\x11\x11\x11\x11\x11\x11\x11\x11\x11\x11\x11\x11\x11\x11\x11\x11\x11\x11\x11\x11\x11\x11\x11\x11\x11\x11\x11\x11\x11\x11\x11\x11\x11\x11\x11\x11\x11\x11\x11\x11\x11\x11\x11\x11\x11\x11\x11\x11\x11\x11\x11\x11\x11\x11\x11\x11\x11\x11\x11\x11\x11\x11\x11\x11\x11\x11\x11\x11\x11\x11\x11\x11\x11\x11\x11\x11\x11\x11\x11\x11\x11\x11\x11\x11\x11";
@@ -84,21 +84,21 @@ fn kinds() -> [u8; 256]
 
 // Below 16 the number of a digit, 16 for any other xchar, 17 for the rest.
 fn kind(k: &[u8; 256], x: u8) -> u8
-    requires { ⌜ now k ≡ «kinds» ⌝ }
-    ensures { λ r. ⌜ r ≡ «kind» x ⌝ }
+    requires { ⌜ now k ≡ kinds ⌝ }
+    ensures { λ r. ⌜ r ≡ kind x ⌝ }
 {
     k[x as usize]
 }
 
 fn is_xchar(k: &[u8; 256], x: u8) -> bool
-    requires { ⌜ now k ≡ «kinds» ⌝ }
+    requires { ⌜ now k ≡ kinds ⌝ }
     ensures { λ r. ⌜ r ≡ xchar x ⌝ }
 {
     kind(k, x) < 17
 }
 
 fn is_hexdig(k: &[u8; 256], x: u8) -> bool
-    requires { ⌜ now k ≡ «kinds» ⌝ }
+    requires { ⌜ now k ≡ kinds ⌝ }
     ensures { λ r. ⌜ r ≡ hexdig x ⌝ }
 {
     kind(k, x) < 16
@@ -106,18 +106,18 @@ fn is_hexdig(k: &[u8; 256], x: u8) -> bool
 
 // Whether "+" and two digits stand at an index.
 fn is_hexchar_at(k: &[u8; 256], text: &[u8], i: usize) -> bool
-    requires { ⌜ (i < length (now text)) × (now k ≡ «kinds») ⌝ }
+    requires { ⌜ (i < length (now text)) × (now k ≡ kinds) ⌝ }
     ensures { λ r. ⌜ r ≡ hexcharAt (now (text .entry)) i ⌝ }
 {
     if text.len() <= i + 2 {
         return false;
     }
-    (text[i] == 43) & is_hexdig(k, text[i + 1]) & is_hexdig(k, text[i + 2])
+    (text[i] == b'+') & is_hexdig(k, text[i + 1]) & is_hexdig(k, text[i + 2])
 }
 
 // A hexchar has two octets more than it stands for. These are counted, so that a turn over an xchar only moves on.
 fn measure_by(k: &[u8; 256], text: &[u8]) -> Measured
-    requires { ⌜ now k ≡ «kinds» ⌝ }
+    requires { ⌜ now k ≡ kinds ⌝ }
     ensures { λ r. ⌜ r ≡ measured (now (text .entry)) ⌝ }
 {
     let mut more: usize = 0;
@@ -137,22 +137,22 @@ fn measure_by(k: &[u8; 256], text: &[u8]) -> Measured
 
 // The octet of two digits.
 fn hexchar(k: &[u8; 256], y: u8, z: u8) -> u8
-    requires { ⌜ (number y < 16) × (number z < 16) × (now k ≡ «kinds») ⌝ }
-    ensures { λ r. ⌜ r ≡ «hexchar» y z ⌝ }
+    requires { ⌜ (number y < 16) × (number z < 16) × (now k ≡ kinds) ⌝ }
+    ensures { λ r. ⌜ r ≡ hexchar y z ⌝ }
 {
     kind(k, y) * 16 + kind(k, z)
 }
 
 // Writes the octets of a text to the start of out. In a valid text "+" has its two digits.
 fn fill(k: &[u8; 256], text: &[u8], out: &mut [u8])
-    requires { ⌜ (valid (now text) ≡ true) × (length (octets (now text)) ≤ length (now out)) × (now k ≡ «kinds») ⌝ }
+    requires { ⌜ (valid (now text) ≡ true) × (length (octets (now text)) ≤ length (now out)) × (now k ≡ kinds) ⌝ }
     ensures { λ _. ⌜ now (out .exit) ≡ sets (now (out .entry)) 0 (octets (now (text .entry))) ⌝ }
 {
     let mut n: usize = 0;
     let mut i: usize = 0;
     while i < text.len() {
         let x = text[i];
-        if x == 43 {
+        if x == b'+' {
             out[n] = hexchar(k, text[i + 1], text[i + 2]);
             i += 3;
         } else {
@@ -165,7 +165,7 @@ fn fill(k: &[u8; 256], text: &[u8], out: &mut [u8])
 
 // How many octets are to be escaped. The length of the text itself might not fit a usize: an escape adds two octets.
 fn escapes(k: &[u8; 256], bytes: &[u8]) -> usize
-    requires { ⌜ now k ≡ «kinds» ⌝ }
+    requires { ⌜ now k ≡ kinds ⌝ }
     ensures { λ r. ⌜ length (now (bytes .entry)) + r * 2 ≡ length (encode (now (bytes .entry))) ⌝ }
 {
     let mut n: usize = 0;
@@ -179,30 +179,32 @@ fn escapes(k: &[u8; 256], bytes: &[u8]) -> usize
     n
 }
 
+// The digits, made once by encode and lent, as kinds is.
 fn digits() -> [u8; 16]
-    ensures { λ r. ⌜ r ≡ «digits» ⌝ }
+    ensures { λ r. ⌜ r ≡ digits ⌝ }
 {
     let t = b"0123456789ABCDEF";
     *t
 }
 
+// The digit of a number.
 fn digit(d: &[u8; 16], v: u8) -> u8
-    requires { ⌜ (v < 16) × (now d ≡ «digits») ⌝ }
-    ensures { λ r. ⌜ r ≡ «digit» v ⌝ }
+    requires { ⌜ (v < 16) × (now d ≡ digits) ⌝ }
+    ensures { λ r. ⌜ r ≡ digit v ⌝ }
 {
     d[v as usize]
 }
 
 // Writes an octet as xchar or hexchar, and gives the index after it.
 fn put(k: &[u8; 256], d: &[u8; 16], out: &mut [u8], n: usize, x: u8) -> usize
-    requires { ⌜ (n + length (spelling x) ≤ length (now out)) × (now k ≡ «kinds») × (now d ≡ «digits») ⌝ }
+    requires { ⌜ (n + length (spelling x) ≤ length (now out)) × (now k ≡ kinds) × (now d ≡ digits) ⌝ }
     ensures { λ r. ⌜ (r ≡ n + length (spelling x)) × (now (out .exit) ≡ sets (now (out .entry)) n (spelling x)) ⌝ }
 {
     if is_xchar(k, x) {
         out[n] = x;
         return n + 1;
     }
-    out[n] = 43;
+    out[n] = b'+';
     out[n + 1] = digit(d, x / 16);
     out[n + 2] = digit(d, x % 16);
     n + 3
@@ -210,7 +212,7 @@ fn put(k: &[u8; 256], d: &[u8; 16], out: &mut [u8], n: usize, x: u8) -> usize
 
 // Writes the text of some octets into out from index at on, and gives the index after it.
 fn spell(k: &[u8; 256], d: &[u8; 16], bytes: &[u8], out: &mut [u8], at: usize) -> usize
-    requires { ⌜ (at + length (encode (now bytes)) ≤ length (now out)) × (now k ≡ «kinds») × (now d ≡ «digits») ⌝ }
+    requires { ⌜ (at + length (encode (now bytes)) ≤ length (now out)) × (now k ≡ kinds) × (now d ≡ digits) ⌝ }
     ensures { λ r. ⌜ (r ≡ at + length (encode (now (bytes .entry)))) × (now (out .exit) ≡ sets (now (out .entry)) at (encode (now (bytes .entry)))) ⌝ }
 {
     let mut n = at;

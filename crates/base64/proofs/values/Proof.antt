@@ -1,6 +1,6 @@
 use mathlib.Core.Path.{refl}
 use Rattle.base64.specs.Base64.{value, alphabet}
-use Rattle.base64.specs.Places.{values}
+use Rattle.base64.specs.Private.{values}
 use Rattle.base64.proofs.values.Statement.{statement}
 use Rattle.base64.proofs.values.Tie as tie
 

@@ -1,4 +1,4 @@
-use Rattle.xtext.specs.Steps.{kinds, kind}
+use Rattle.xtext.specs.Private.{kinds, kind}
 use Rattle.octets.proofs.Alphabet.{looked-up}
 use mathlib.Core.Path.{refl}
 use borrow.Author.Needs.{needs}

@@ -1,5 +1,5 @@
 use Rattle.xtext.specs.Xtext.{number, digits}
-use Rattle.xtext.specs.Steps.{kinds, kind}
+use Rattle.xtext.specs.Private.{kinds, kind}
 use mathlib.Core.Path.{refl}
 use Rattle.xtext.proofs.kinds.Statement.{statement}
 use Rattle.xtext.proofs.kinds.Tie as tie

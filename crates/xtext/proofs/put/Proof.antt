@@ -1,7 +1,7 @@
 use mathlib.Core.List.{[], _∷_}
 use Prim.Native.Nat.{_/_, _%_}
 use Rattle.xtext.specs.Xtext.{digit, plus}
-use Rattle.xtext.specs.Steps.{spelling}
+use Rattle.xtext.specs.Private.{spelling}
 use Rattle.xtext.proofs.Turns.{spell-self, spell-escape}
 use native.Mathlib.Numerals.{add-one, add-two}
 use lib.ListN.{length, length-set}

@@ -6,7 +6,7 @@ use lib.ListN.{length, getD, drop}
 use lib.Seq.{sets}
 use Rattle.octets.proofs.Lists.{store-part}
 use Rattle.xtext.specs.Xtext.{encode}
-use Rattle.xtext.specs.Steps.{spelling}
+use Rattle.xtext.specs.Private.{spelling}
 use Rattle.xtext.proofs.Turns.{encode-turn, length-turn, encode-end}
 use Rattle.xtext.proofs.spell.Statement.{statement}
 use Rattle.xtext.proofs.spell.Tie as tie

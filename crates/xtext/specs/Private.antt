@@ -1,4 +1,4 @@
--- What one turn of the reader and of the writer does. Only contracts of private functions cite these.
+-- What only the promises of private functions cite: the table of all octets' kinds, a text at an index, and what is written for an octet.
 use mathlib.Core.Bool.{Bool, cond, _&&_}
 use mathlib.Core.List.{List, [], _∷_}
 use Prim.Native.Nat.{ℕ, _+_, _/_, _%_}

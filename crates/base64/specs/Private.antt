@@ -1,11 +1,13 @@
--- What the private functions of base64 speak of: a text at an index, and the table of all octets' numbers. No promise to callers cites these.
+-- What only the promises of private functions cite: the table of all octets' numbers, a text at an index, and its end.
 use mathlib.Core.Bool.{Bool}
 use mathlib.Core.List.{List}
 use Prim.Native.Nat.{ℕ, _+_}
 use lib.ListN.{getD}
 use Rattle.octets.specs.Alphabet.{table}
+use Rattle.octets.specs.declared.Measured.{Measured}
 use Rattle.base64.specs.Base64.{value, letters, groupOf}
 use Rattle.base64.specs.declared.Group.{Group}
+use Rattle.base64.specs.declared.Group.the-variants.{One, Two, Three, Bad}
 
 unfoldable pub values : List ℕ
 values = table value
@@ -16,3 +18,10 @@ groupAt t i = groupOf (getD t i 0) (getD t (i + 1) 0) (getD t (i + 2) 0) (getD t
 
 abbrev pub lettersAt : List ℕ → ℕ → Bool
 lettersAt t i = letters (value (getD t i 0)) (value (getD t (i + 1) 0)) (value (getD t (i + 2) 0)) (value (getD t (i + 3) 0))
+
+-- the measure of a text whose last group is g, with n octets before it
+abbrev pub last : ℕ → Group → Measured
+last n (Three x y z) = Measured.Length (n + 3)
+last n (Two x y) = Measured.Length (n + 2)
+last n (One x) = Measured.Length (n + 1)
+last n Bad = Measured.Malformed
