@@ -1,7 +1,7 @@
 -- Base64, RFC 4648 section 4, over lists of octets.
 use mathlib.Core.Bool.{Bool, true, false, cond, _&&_}
 use mathlib.Core.List.{List, [], _∷_, _++_}
-use Prim.Native.Nat.{ℕ, _+_, _*_, _/_, _%_}
+use Prim.Native.Nat.{ℕ, _+_, _*_, _/_, _%_, _^_}
 use lib.Dec.{ltb, eqb}
 use lib.ListN.{length, getD}
 use Rattle.octets.specs.Alphabet.{index}
@@ -32,20 +32,20 @@ pad = 61
 
 -- "a 24-bit input group is formed by concatenating 3 8-bit input groups"
 abbrev pub bits : ℕ → ℕ → ℕ → ℕ
-bits a b c = a * 65536 + b * 256 + c
+bits a b c = a * 2 ^ 16 + b * 2 ^ 8 + c
 
 -- "These 24 bits are then treated as 4 concatenated 6-bit groups, each of which is translated into a single character in the base 64 alphabet"
 abbrev pub letter1 : ℕ → ℕ
-letter1 w = letter (w / 262144 % 64)
+letter1 w = letter (w / 2 ^ 18 % 2 ^ 6)
 
 abbrev pub letter2 : ℕ → ℕ
-letter2 w = letter (w / 4096 % 64)
+letter2 w = letter (w / 2 ^ 12 % 2 ^ 6)
 
 abbrev pub letter3 : ℕ → ℕ
-letter3 w = letter (w / 64 % 64)
+letter3 w = letter (w / 2 ^ 6 % 2 ^ 6)
 
 abbrev pub letter4 : ℕ → ℕ
-letter4 w = letter (w % 64)
+letter4 w = letter (w % 2 ^ 6)
 
 -- three octets are four letters. At the end of the data "bits with value zero are added (on the right)": of one octet
 -- "two characters followed by two "=" padding characters", of two octets "three characters followed by one "=" padding character"
@@ -67,27 +67,27 @@ encode (a ∷ b ∷ c ∷ r) = quad3 a b c ++ encode r
 
 -- four 6-bit groups back to 24 bits, and these to octets
 abbrev pub joined : ℕ → ℕ → ℕ → ℕ → ℕ
-joined p q r s = p * 262144 + q * 4096 + r * 64 + s
+joined p q r s = p * 2 ^ 18 + q * 2 ^ 12 + r * 2 ^ 6 + s
 
 abbrev pub octet1 : ℕ → ℕ
-octet1 w = w / 65536 % 256
+octet1 w = w / 2 ^ 16 % 2 ^ 8
 
 abbrev pub octet2 : ℕ → ℕ
-octet2 w = w / 256 % 256
+octet2 w = w / 2 ^ 8 % 2 ^ 8
 
 abbrev pub octet3 : ℕ → ℕ
-octet3 w = w % 256
+octet3 w = w % 2 ^ 8
 
--- what four octets a b c d of text stand for. RFC 4954 section 8: "4base64-char", or at the end
+-- what four octets a b c d of text stand for, of which p q r s are the numbers. RFC 4954 section 8: "4base64-char", or at the end
 -- "base64-terminal = (2base64-char "==") / (3base64-char "=")"; the bits that the padding leaves unused are zero (document 01)
 abbrev pub letters : ℕ → ℕ → ℕ → ℕ → Bool
 letters p q r s = ltb p 64 && ltb q 64 && ltb r 64 && ltb s 64
 
 abbrev pub letters3 : ℕ → ℕ → ℕ → ℕ → Bool
-letters3 p q r d = ltb p 64 && ltb q 64 && ltb r 64 && eqb d pad && eqb (joined p q r 0 % 256) 0
+letters3 p q r d = ltb p 64 && ltb q 64 && ltb r 64 && eqb d pad && eqb (joined p q r 0 % 2 ^ 8) 0
 
 abbrev pub letters2 : ℕ → ℕ → ℕ → ℕ → Bool
-letters2 p q c d = ltb p 64 && ltb q 64 && eqb c pad && eqb d pad && eqb (joined p q 0 0 % 65536) 0
+letters2 p q c d = ltb p 64 && ltb q 64 && eqb c pad && eqb d pad && eqb (joined p q 0 0 % 2 ^ 16) 0
 
 abbrev pub three : ℕ → Group
 three w = Three (octet1 w) (octet2 w) (octet3 w)
