@@ -1,5 +1,4 @@
-// Outside vectors, run through the proved functions. What they must print is in the file stdout, which was written from the papers
-// (README, "What is tested").
+// Outside vectors, run through the proved functions. What they must print is in the file stdout, which expected.py makes from the papers.
 mod base64_cases;
 mod form;
 mod rows;
