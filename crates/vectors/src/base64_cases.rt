@@ -20,9 +20,9 @@ fn vector(bytes: &[u8]) {
     put(b"\n");
 }
 
-// A text of so many letters, none of them the last line's length but one.
+// A text of n letters.
 fn letters(n: usize) {
-    let text = [65u8; 12288];
+    let text = [b'A'; 12288];
     let mut out = [0u8; 9216];
     number(n);
     put(b" letters: ");
@@ -32,7 +32,7 @@ fn letters(n: usize) {
     put(b"\n");
 }
 
-fn papers() {
+fn vectors() {
     vector(b"");
     vector(b"f");
     vector(b"fo");
@@ -40,6 +40,9 @@ fn papers() {
     vector(b"foob");
     vector(b"fooba");
     vector(b"foobar");
+}
+
+fn examples() {
     read_each(
         Form::Base64,
         b"|Zg==|Zm8=|Zm9v|Zm9vYg==|Zm9vYmE=|Zm9vYmFy|dGVzdAB0ZXN0ADEyMzQ=|cmpzMyBlYzNhNTlmZWQzOTVhYmExZWM2MzY3YzRmNGI0MWFjMA==|dGVzdAB0ZXN0AHRlc3Q=|QUIT",
@@ -54,12 +57,15 @@ fn near_misses() {
     );
 }
 
-fn buffers() {
+fn decode_buffers() {
     decode_into(Form::Base64, b"Zm9v", 5);
     decode_into(Form::Base64, b"Zm9v", 3);
     decode_into(Form::Base64, b"Zm9v", 2);
     decode_into(Form::Base64, b"Zh==", 5);
     decode_into(Form::Base64, b"", 0);
+}
+
+fn encode_buffers() {
     encode_into(Form::Base64, b"foo", 8, 2);
     encode_into(Form::Base64, b"foo", 8, 4);
     encode_into(Form::Base64, b"foo", 8, 5);
@@ -80,9 +86,11 @@ fn parts() {
 }
 
 pub fn run() {
-    papers();
+    vectors();
+    examples();
     near_misses();
-    buffers();
+    decode_buffers();
+    encode_buffers();
     parts();
     rows::taken(Form::Base64, b"AAAA");
     let mut text = [0u8; 344];

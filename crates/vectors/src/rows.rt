@@ -10,6 +10,24 @@ use octets::Decoded;
 use octets::Encoded;
 use octets::Measured;
 
+// How a row begins, what it is about, and how it ends.
+fn heading(f: Form, word: &[u8], text: &[u8]) {
+    show::form(f);
+    put(word);
+    quoted(text);
+}
+
+fn amount(word: &[u8], n: usize) {
+    put(word);
+    number(n);
+}
+
+fn ending(row: &[u8]) {
+    put(b", ");
+    quoted(row);
+    put(b"\n");
+}
+
 // The text of some octets.
 pub fn text_of(f: Form, bytes: &[u8]) {
     let mut text = [0u8; 192];
@@ -27,18 +45,13 @@ pub fn text_of(f: Form, bytes: &[u8]) {
 // A text: how many octets it stands for, which, and their text.
 fn read(f: Form, text: &[u8]) {
     let mut out = [0u8; 64];
-    show::form(f);
-    put(b" ");
-    quoted(text);
+    heading(f, b" ", text);
     put(b": ");
     show::measured(form::measure(f, text));
     let d = form::decode(f, text, &mut out);
     match d {
         Decoded::Length(n) => {
-            put(b", ");
-            quoted(octets::part(&out, 0, n));
-            put(b", again ");
-            text_of(f, octets::part(&out, 0, n));
+            again(f, octets::part(&out, 0, n));
         }
         Decoded::Malformed => {}
         Decoded::Short => {
@@ -48,12 +61,19 @@ fn read(f: Form, text: &[u8]) {
     put(b"\n");
 }
 
+fn again(f: Form, bytes: &[u8]) {
+    put(b", ");
+    quoted(bytes);
+    put(b", again ");
+    text_of(f, bytes);
+}
+
 // Each text of a list, with "|" between them.
 pub fn read_each(f: Form, list: &[u8]) {
     let mut from: usize = 0;
     let mut i: usize = 0;
     while i < list.len() {
-        if list[i] == 124 {
+        if list[i] == b'|' {
             read(f, octets::part(list, from, i));
             from = i + 1;
         }
@@ -65,35 +85,24 @@ pub fn read_each(f: Form, list: &[u8]) {
 // A part of a line, decoded into a row of dots.
 pub fn read_part(f: Form, line: &[u8], from: usize, to: usize) {
     let mut dots = *b"....................";
-    show::form(f);
-    put(b" ");
-    quoted(line);
-    put(b" from ");
-    number(from);
-    put(b" to ");
-    number(to);
+    heading(f, b" ", line);
+    amount(b" from ", from);
+    amount(b" to ", to);
     put(b": ");
     show::measured(form::measure_part(f, line, from, to));
     put(b", ");
     show::decoded(form::decode_part(f, line, from, to, &mut dots));
-    put(b", ");
-    quoted(&dots);
-    put(b"\n");
+    ending(&dots);
 }
 
 // A row of dots of which the first m were lent to decode a text into.
 pub fn decode_into(f: Form, text: &[u8], m: usize) {
     let mut dots = *b"........";
-    show::form(f);
-    put(b" ");
-    quoted(text);
-    put(b" into ");
-    number(m);
+    heading(f, b" ", text);
+    amount(b" into ", m);
     put(b": ");
     decode_to(f, text, m, &mut dots);
-    put(b", ");
-    quoted(&dots);
-    put(b"\n");
+    ending(&dots);
 }
 
 fn decode_to(f: Form, text: &[u8], m: usize, dots: &mut [u8]) {
@@ -105,18 +114,12 @@ fn decode_to(f: Form, text: &[u8], m: usize, dots: &mut [u8]) {
 // A row of dots of which the first m were lent to encode octets into from an index on.
 pub fn encode_into(f: Form, bytes: &[u8], m: usize, at: usize) {
     let mut dots = *b"........";
-    show::form(f);
-    put(b" of ");
-    quoted(bytes);
-    put(b" into ");
-    number(m);
-    put(b" from ");
-    number(at);
+    heading(f, b" of ", bytes);
+    amount(b" into ", m);
+    amount(b" from ", at);
     put(b": ");
     encode_to(f, bytes, m, at, &mut dots);
-    put(b", ");
-    quoted(&dots);
-    put(b"\n");
+    ending(&dots);
 }
 
 fn encode_to(f: Form, bytes: &[u8], m: usize, at: usize, dots: &mut [u8]) {
@@ -127,17 +130,12 @@ fn encode_to(f: Form, bytes: &[u8], m: usize, at: usize, dots: &mut [u8]) {
 
 // How many octets of all 256 are taken at each place of a text.
 pub fn taken(f: Form, text: &[u8; 4]) {
-    show::form(f);
-    put(b" ");
-    quoted(text);
-    put(b" with another octet at each place, taken: ");
-    number(taken_at(f, *text, 0));
-    put(b" ");
-    number(taken_at(f, *text, 1));
-    put(b" ");
-    number(taken_at(f, *text, 2));
-    put(b" ");
-    number(taken_at(f, *text, 3));
+    heading(f, b" ", text);
+    put(b" with another octet at each place, taken:");
+    amount(b" ", taken_at(f, *text, 0));
+    amount(b" ", taken_at(f, *text, 1));
+    amount(b" ", taken_at(f, *text, 2));
+    amount(b" ", taken_at(f, *text, 3));
     put(b"\n");
 }
 
@@ -183,7 +181,11 @@ pub fn all_octets(f: Form, text: &mut [u8]) {
     quoted(text);
     put(b", ");
     show::decoded(form::decode(f, text, &mut back));
-    if check::same(&bytes, &back) {
+    compared(&bytes, &back);
+}
+
+fn compared(bytes: &[u8], back: &[u8]) {
+    if check::same(bytes, back) {
         put(b", the same\n");
     } else {
         put(b", others\n");

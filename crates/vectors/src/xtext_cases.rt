@@ -21,12 +21,15 @@ fn near_misses() {
     );
 }
 
-fn buffers() {
+fn decode_buffers() {
     decode_into(Form::Xtext, b"a+3Db", 5);
     decode_into(Form::Xtext, b"a+3Db", 3);
     decode_into(Form::Xtext, b"a+3Db", 2);
     decode_into(Form::Xtext, b"a+3db", 5);
     decode_into(Form::Xtext, b"", 0);
+}
+
+fn encode_buffers() {
     encode_into(Form::Xtext, b"a=b", 8, 1);
     encode_into(Form::Xtext, b"a=b", 8, 3);
     encode_into(Form::Xtext, b"a=b", 8, 4);
@@ -49,7 +52,8 @@ fn parts() {
 pub fn run() {
     texts();
     near_misses();
-    buffers();
+    decode_buffers();
+    encode_buffers();
     parts();
     rows::taken(Form::Xtext, b"+00A");
     let mut text = [0u8; 584];
