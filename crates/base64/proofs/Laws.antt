@@ -1,9 +1,9 @@
 -- The laws of base64's definitions. Assumes nothing.
 use mathlib.Core.Path.{_≡_, refl, sym, _∙_, ap}
-use mathlib.Core.Bool.{true, false, _||_}
+use mathlib.Core.Bool.{Bool, true, false, cond, _&&_, _||_}
 use mathlib.Core.List.{List, [], _∷_, _++_}
 use mathlib.Core.Logic.{_↔_}
-use Prim.Native.Nat.{ℕ, zero, suc, _+_, _*_, _-_, _/_, _<_, _≤_}
+use Prim.Native.Nat.{ℕ, zero, suc, _+_, _*_, _-_, _/_, _%_, _<_, _≤_}
 use native.Mathlib.Omega.{arith}
 use borrow.Author.Tests.{ne-eqb}
 use lib.Dec.{eqb}
@@ -36,9 +36,12 @@ octets-octets (a ∷ b ∷ c ∷ d ∷ r) = go (groupOf a b c d) (cases a b c d)
     go g is-bad ih = ih
 
 -- the octets of a valid text from its length and its closing "="
+letter-not-pad : (x : ℕ) → value x < 64 → eqb x pad ≡ false
+letter-not-pad x h = ne-eqb x pad (not-pad x h)
+
 closing-letter : (x : ℕ) (l : List ℕ) → value x < 64 → closing (x ∷ l) ≡ closing l
 unfolding closing
-closing-letter x l h = rw (ne-eqb x pad (not-pad x h))
+closing-letter x l h = rw (letter-not-pad x h)
 
 counted : {t l : List ℕ} → Text t l → length l + closing t ≡ 3 * (length t / 4)
 unfolding closing
@@ -50,6 +53,42 @@ counted (four-letters ha hb hc hd m) =
 
 pub length-octets : (t : List ℕ) → valid t ≡ true → length (octets t) ≡ 3 * (length t / 4) - closing t
 length-octets t h = omega (arith, counted (text t h))
+
+-- "length a multiple of four, one or two "=" only at the end" (document 01)
+whole-groups : {t l : List ℕ} → Text t l → length t % 4 ≡ 0
+whole-groups none = refl
+whole-groups (two-letters ha hb hc hd hz) = refl
+whole-groups (three-letters ha hb hc hd hz) = refl
+whole-groups (four-letters ha hb hc hd m) = omega (arith, whole-groups m)
+
+closing-most : {t l : List ℕ} → Text t l → closing t ≤ 2
+unfolding closing
+closing-most none = omega arith
+closing-most (two-letters ha hb hc hd hz) = rw (closing-letter _ _ ha, closing-letter _ _ hb, hc, hd) (omega arith)
+closing-most (three-letters ha hb hc hd hz) = rw (closing-letter _ _ ha, closing-letter _ _ hb, closing-letter _ _ hc, hd) (omega arith)
+closing-most (four-letters ha hb hc hd m) = rw (closing-letter _ _ ha, closing-letter _ _ hb, closing-letter _ _ hc, closing-letter _ _ hd) (closing-most m)
+
+closing-within : (t : List ℕ) → closing t ≤ length t
+unfolding closing
+closing-within [] = omega arith
+closing-within (x ∷ l) = go (eqb x pad && eqb (closing l) (length l)) (closing-within l)
+  where
+    go : (b : Bool) → closing l ≤ length l → cond b (closing l + 1) (closing l) ≤ suc (length l)
+    go true h = omega arith
+    go false h = omega arith
+
+letters-before : {t l : List ℕ} → Text t l → holds pad (take (length t - closing t) t) ≡ false
+unfolding closing
+letters-before none = refl
+letters-before (two-letters ha hb hc hd hz) = rw (closing-letter _ _ ha, closing-letter _ _ hb, hc, hd) (rw (letter-not-pad _ ha, letter-not-pad _ hb))
+letters-before (three-letters ha hb hc hd hz) =
+    rw (closing-letter _ _ ha, closing-letter _ _ hb, closing-letter _ _ hc, hd) (rw (letter-not-pad _ ha, letter-not-pad _ hb, letter-not-pad _ hc))
+letters-before (four-letters {r = r} ha hb hc hd m) =
+    let e : suc (suc (suc (suc (length r)))) - closing r ≡ suc (suc (suc (suc (length r - closing r)))) = omega (arith, closing-within r) in
+    rw (closing-letter _ _ ha, closing-letter _ _ hb, closing-letter _ _ hc, closing-letter _ _ hd, e, letter-not-pad _ ha, letter-not-pad _ hb, letter-not-pad _ hc, letter-not-pad _ hd) (letters-before m)
+
+pub shape : (t : List ℕ) → valid t ≡ true → (length t % 4 ≡ 0) × (closing t ≤ 2) × (holds pad (take (length t - closing t) t) ≡ false)
+shape t h = (whole-groups (text t h), closing-most (text t h), letters-before (text t h))
 
 -- two valid texts of equal length with equally many closing "=" are measured alike
 pub same-measure : (t u : List ℕ) → valid t ≡ true → valid u ≡ true → length t ≡ length u → closing t ≡ closing u → measured t ≡ measured u
