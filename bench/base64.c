@@ -18,26 +18,6 @@ uint64_t bench_base64_encode(const uint8_t *bytes, size_t size, uint8_t *out, si
 
 /* --- the contenders, in the shape of a row --- */
 
-static uint64_t proved_measure(const uint8_t *in, size_t size, uint8_t *out, size_t room) {
-    (void)out;
-    (void)room;
-    return bench_base64_measure(in, size);
-}
-
-static uint64_t plain_measure(const uint8_t *in, size_t size, uint8_t *out, size_t room) {
-    (void)out;
-    (void)room;
-    return plain_base64_measure(in, size);
-}
-
-static uint64_t proved_encode(const uint8_t *in, size_t size, uint8_t *out, size_t room) {
-    return bench_base64_encode(in, size, out, room, 0);
-}
-
-static uint64_t plain_encode(const uint8_t *in, size_t size, uint8_t *out, size_t room) {
-    return plain_base64_encode(in, size, out, room, 0);
-}
-
 #ifdef HAVE_OPENSSL
 static uint64_t decode_by_openssl(const uint8_t *in, size_t size, uint8_t *out, size_t room) {
     (void)room;
@@ -95,11 +75,6 @@ static uint64_t encode_by_glib(const uint8_t *in, size_t size, uint8_t *out, siz
 }
 #endif
 
-static const struct row measure_rows[] = {
-    {"proved", proved_measure},
-    {"plain C", plain_measure},
-};
-
 static const struct row decode_rows[] = {
     {"proved", bench_base64_decode},
     {"plain C", plain_base64_decode},
@@ -116,8 +91,8 @@ static const struct row decode_rows[] = {
 };
 
 static const struct row encode_rows[] = {
-    {"proved", proved_encode},
-    {"plain C", plain_encode},
+    {"proved", encode_by_proved},
+    {"plain C", encode_by_plain},
 #ifdef HAVE_OPENSSL
     {"OpenSSL", encode_by_openssl},
 #endif
@@ -139,60 +114,46 @@ static void draw_bytes(size_t size, uint8_t *bytes) {
     }
 }
 
-/* The octets of a text of so many letters, with no padding. */
-static size_t make_bytes(size_t letters, uint8_t *bytes) {
-    size_t size = letters / 4 * 3;
+/* The octets of a text of so many letters, the last pad of them "=". */
+static size_t make_bytes(size_t letters, size_t pad, uint8_t *bytes) {
+    size_t size = letters / 4 * 3 - pad;
     draw_bytes(size, bytes);
     return size;
 }
 
-/* The text of so many letters, the last pad of them "=". */
-static void write_text(size_t letters, size_t pad, uint8_t *text) {
+static size_t make_text(size_t letters, size_t pad, uint8_t *text) {
     uint8_t bytes[MOST];
-    size_t size = letters / 4 * 3 - pad;
-    draw_bytes(size, bytes);
+    size_t size = make_bytes(letters, pad, bytes);
     plain_base64_encode(bytes, size, text, letters, 0);
-}
-
-static size_t make_valid(size_t letters, uint8_t *text) {
-    write_text(letters, 0, text);
     return letters;
 }
 
-static size_t make_padded(size_t letters, uint8_t *text) {
-    write_text(letters, 1, text);
-    return letters;
-}
+/* An octet that is no letter, so many places before the end or, for MIDDLE, in the middle. */
+enum { LAST = 1, MIDDLE = 0 };
 
-static size_t make_last(size_t letters, uint8_t *text) {
-    write_text(letters, 0, text);
-    text[letters - 1] = '*';
-    return letters;
-}
-
-static size_t make_middle(size_t letters, uint8_t *text) {
-    write_text(letters, 0, text);
-    text[letters / 2] = '*';
+static size_t make_damaged(size_t letters, size_t place, uint8_t *text) {
+    make_text(letters, 0, text);
+    text[place == MIDDLE ? letters / 2 : letters - place] = '*';
     return letters;
 }
 
 static const struct table tables[] = {
-    {"measure", "valid", measure_rows, COUNT(measure_rows), make_valid},
-    {"measure", "padded", measure_rows, COUNT(measure_rows), make_padded},
-    {"measure", "damaged last", measure_rows, COUNT(measure_rows), make_last},
-    {"measure", "damaged middle", measure_rows, COUNT(measure_rows), make_middle},
-    {"decode", "valid", decode_rows, COUNT(decode_rows), make_valid},
-    {"decode", "padded", decode_rows, COUNT(decode_rows), make_padded},
-    {"decode", "damaged last", decode_rows, COUNT(decode_rows), make_last},
-    {"decode", "damaged middle", decode_rows, COUNT(decode_rows), make_middle},
-    {"encode", "octets", encode_rows, COUNT(encode_rows), make_bytes},
+    {"measure", "valid", measure_rows, 2, make_text, 0},
+    {"measure", "padded", measure_rows, 2, make_text, 1},
+    {"measure", "damaged last", measure_rows, 2, make_damaged, LAST},
+    {"measure", "damaged middle", measure_rows, 2, make_damaged, MIDDLE},
+    {"decode", "valid", decode_rows, COUNT(decode_rows), make_text, 0},
+    {"decode", "padded", decode_rows, COUNT(decode_rows), make_text, 1},
+    {"decode", "damaged last", decode_rows, COUNT(decode_rows), make_damaged, LAST},
+    {"decode", "damaged middle", decode_rows, COUNT(decode_rows), make_damaged, MIDDLE},
+    {"encode", "octets", encode_rows, COUNT(encode_rows), make_bytes, 0},
 };
 
 /* A size that is no multiple of four has no valid text: there it is a text that is cut off. */
 static void some_text(size_t size, uint8_t *text) {
     uint8_t whole[MOST];
     size_t letters = (size + 3) / 4 * 4;
-    write_text(letters, letters == 0 ? 0 : draw(3), whole);
+    make_text(letters, letters == 0 ? 0 : draw(3), whole);
     memcpy(text, whole, size);
 }
 

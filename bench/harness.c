@@ -29,6 +29,35 @@ size_t draw(size_t limit) {
     return (state >> 8) % limit;
 }
 
+/* --- the contenders --- */
+
+static const struct form *running;
+
+static uint64_t measure_by_proved(const uint8_t *in, size_t size, uint8_t *out, size_t room) {
+    (void)out;
+    (void)room;
+    return running->proved.measure(in, size);
+}
+
+static uint64_t measure_by_plain(const uint8_t *in, size_t size, uint8_t *out, size_t room) {
+    (void)out;
+    (void)room;
+    return running->plain.measure(in, size);
+}
+
+const struct row measure_rows[2] = {
+    {"proved", measure_by_proved},
+    {"plain C", measure_by_plain},
+};
+
+uint64_t encode_by_proved(const uint8_t *in, size_t size, uint8_t *out, size_t room) {
+    return running->proved.encode(in, size, out, room, 0);
+}
+
+uint64_t encode_by_plain(const uint8_t *in, size_t size, uint8_t *out, size_t room) {
+    return running->plain.encode(in, size, out, room, 0);
+}
+
 /* --- the tables --- */
 
 static const size_t letters_of[] = {4, 16, 64, 512, 12284};
@@ -105,7 +134,7 @@ static size_t rounds_wanted(void) {
 static bool time_table(const struct table *table, size_t letters) {
     static double times[MOST_ROWS][MOST_ROUNDS];
     static double ratios[MOST_ROUNDS];
-    size_t size = table->make(letters, in);
+    size_t size = table->make(letters, table->choice, in);
     if (!all_do_the_same(table, letters, size)) {
         return false;
     }
@@ -131,7 +160,7 @@ static bool time_table(const struct table *table, size_t letters) {
 
 /* One dump of callgrind for each row; run.sh divides its total by CALLS. */
 static bool count_table(const struct table *table, size_t letters) {
-    size_t size = table->make(letters, in);
+    size_t size = table->make(letters, table->choice, in);
     if (!all_do_the_same(table, letters, size)) {
         return false;
     }
@@ -167,7 +196,6 @@ static int all_tables(const struct form *form, bool (*one)(const struct table *,
 /* The longest input that is compared; a text of escapes is three times as long, and some room is left behind it. */
 enum { LONGEST = 80, PAGE = 3 * LONGEST + 40 };
 
-static const struct form *compared;
 static long comparisons;
 static long differences;
 
@@ -176,7 +204,7 @@ static void differs(const char *function, const uint8_t *input, size_t size, siz
     if (differences > 10) {
         return;
     }
-    printf("DIFFERS %s %s: room %zu, at %zu, proved %lld, plain C %lld, input ", compared->name, function, room, at, (long long)got, (long long)want);
+    printf("DIFFERS %s %s: room %zu, at %zu, proved %lld, plain C %lld, input ", running->name, function, room, at, (long long)got, (long long)want);
     for (size_t i = 0; i < size; i++) {
         printf("%02x", input[i]);
     }
@@ -194,8 +222,8 @@ static void lend(uint8_t *one, uint8_t *other) {
 }
 
 static void compare_measure(const uint8_t *text, size_t size) {
-    uint64_t got = compared->proved.measure(text, size);
-    uint64_t want = compared->plain.measure(text, size);
+    uint64_t got = running->proved.measure(text, size);
+    uint64_t want = running->plain.measure(text, size);
     comparisons++;
     if (got != want) {
         differs("measure", text, size, 0, 0, got, want);
@@ -206,8 +234,8 @@ static void compare_decode(const uint8_t *text, size_t size, size_t room) {
     uint8_t a[PAGE];
     uint8_t b[PAGE];
     lend(a, b);
-    uint64_t got = compared->proved.decode(text, size, a, room);
-    uint64_t want = compared->plain.decode(text, size, b, room);
+    uint64_t got = running->proved.decode(text, size, a, room);
+    uint64_t want = running->plain.decode(text, size, b, room);
     if (got != want || memcmp(a, b, PAGE) != 0) {
         differs("decode", text, size, room, 0, got, want);
     }
@@ -217,8 +245,8 @@ static void compare_encode(const uint8_t *bytes, size_t size, size_t room, size_
     uint8_t a[PAGE];
     uint8_t b[PAGE];
     lend(a, b);
-    uint64_t got = compared->proved.encode(bytes, size, a, room, at);
-    uint64_t want = compared->plain.encode(bytes, size, b, room, at);
+    uint64_t got = running->proved.encode(bytes, size, a, room, at);
+    uint64_t want = running->plain.encode(bytes, size, b, room, at);
     if (got != want || memcmp(a, b, PAGE) != 0) {
         differs("encode", bytes, size, room, at, got, want);
     }
@@ -231,7 +259,7 @@ static size_t around_start(size_t need, size_t reach) {
 
 static void compare_text(const uint8_t *text, size_t size, size_t reach) {
     compare_measure(text, size);
-    uint64_t length = compared->plain.measure(text, size);
+    uint64_t length = running->plain.measure(text, size);
     size_t need = length == MALFORMED ? size : (size_t)length;
     for (size_t room = around_start(need, reach); room <= need + reach; room++) {
         compare_decode(text, size, room);
@@ -241,7 +269,7 @@ static void compare_text(const uint8_t *text, size_t size, size_t reach) {
 
 static void compare_bytes(const uint8_t *bytes, size_t size, size_t reach) {
     uint8_t page[PAGE];
-    size_t need = (size_t)compared->plain.encode(bytes, size, page, PAGE, 0);
+    size_t need = (size_t)running->plain.encode(bytes, size, page, PAGE, 0);
     for (size_t at = 0; at < 4; at++) {
         for (size_t room = around_start(at + need, reach); room <= at + need + reach; room++) {
             compare_encode(bytes, size, room, at);
@@ -254,7 +282,7 @@ static void compare_bytes(const uint8_t *bytes, size_t size, size_t reach) {
 
 static void damage(uint8_t *text, size_t size) {
     for (size_t times = 1 + draw(4); times > 0; times--) {
-        uint8_t mark = (uint8_t)compared->marks[draw(strlen(compared->marks))];
+        uint8_t mark = (uint8_t)running->marks[draw(strlen(running->marks))];
         text[draw(size)] = draw(2) ? mark : (uint8_t)draw(256);
     }
 }
@@ -264,19 +292,19 @@ static void compare_texts_of(size_t size) {
     /* a letter of base64 and a digit of xtext: who reads past the end takes it for part of the text */
     memset(text, 'A', sizeof text);
     for (int round = 0; round < 40; round++) {
-        compared->some_text(size, text);
+        running->some_text(size, text);
         compare_text(text, size, LONGEST);
     }
     if (size == 0) {
         return;
     }
     for (int round = 0; round < 1000; round++) {
-        compared->some_text(size, text);
+        running->some_text(size, text);
         damage(text, size);
         compare_text(text, size, 2);
     }
     /* every octet at every place */
-    compared->some_text(size, text);
+    running->some_text(size, text);
     for (size_t place = 0; place < size; place++) {
         uint8_t kept = text[place];
         for (int octet = 0; octet < 256; octet++) {
@@ -290,7 +318,7 @@ static void compare_texts_of(size_t size) {
 static void compare_bytes_of(size_t size) {
     uint8_t bytes[LONGEST];
     for (int round = 0; round < 40; round++) {
-        compared->some_bytes(size, bytes);
+        running->some_bytes(size, bytes);
         compare_bytes(bytes, size, 8);
     }
     for (size_t place = 0; place < size; place++) {
@@ -304,7 +332,6 @@ static void compare_bytes_of(size_t size) {
 }
 
 static int check(const struct form *form) {
-    compared = form;
     seed(3);
     for (size_t size = 0; size <= LONGEST; size++) {
         compare_texts_of(size);
@@ -315,6 +342,7 @@ static int check(const struct form *form) {
 }
 
 int harness_main(const struct form *form, int argc, char **argv) {
+    running = form;
     if (argc == 2 && strcmp(argv[1], "check") == 0) {
         return check(form);
     }

@@ -23,13 +23,14 @@ struct row {
 };
 
 /* A function of the form on one kind of input. The first row is the proved one, the second plain C.
-   make writes the input that belongs to a text of so many letters, and gives its size. */
+   make writes the input that belongs to a text of so many letters, and gives its size; what choice means is the form's. */
 struct table {
     const char *function;
     const char *kind;
     const struct row *rows;
     size_t row_count;
-    size_t (*make)(size_t letters, uint8_t *in);
+    size_t (*make)(size_t letters, size_t choice, uint8_t *in);
+    size_t choice;
 };
 
 struct form {
@@ -47,6 +48,11 @@ struct form {
 };
 
 #define COUNT(array) (sizeof(array) / sizeof *(array))
+
+/* measure and encode of the form that runs, in the shape of a row. (decode has it already.) */
+extern const struct row measure_rows[2];
+uint64_t encode_by_proved(const uint8_t *in, size_t size, uint8_t *out, size_t room);
+uint64_t encode_by_plain(const uint8_t *in, size_t size, uint8_t *out, size_t room);
 
 /* A number below limit, the same ones in each run after the same seed, whatever the C library. */
 void seed(uint32_t start);

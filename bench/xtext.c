@@ -7,39 +7,14 @@ uint64_t bench_xtext_encode(const uint8_t *bytes, size_t size, uint8_t *out, siz
 
 /* --- the contenders, in the shape of a row --- */
 
-static uint64_t proved_measure(const uint8_t *in, size_t size, uint8_t *out, size_t room) {
-    (void)out;
-    (void)room;
-    return bench_xtext_measure(in, size);
-}
-
-static uint64_t plain_measure(const uint8_t *in, size_t size, uint8_t *out, size_t room) {
-    (void)out;
-    (void)room;
-    return plain_xtext_measure(in, size);
-}
-
-static uint64_t proved_encode(const uint8_t *in, size_t size, uint8_t *out, size_t room) {
-    return bench_xtext_encode(in, size, out, room, 0);
-}
-
-static uint64_t plain_encode(const uint8_t *in, size_t size, uint8_t *out, size_t room) {
-    return plain_xtext_encode(in, size, out, room, 0);
-}
-
-static const struct row measure_rows[] = {
-    {"proved", proved_measure},
-    {"plain C", plain_measure},
-};
-
 static const struct row decode_rows[] = {
     {"proved", bench_xtext_decode},
     {"plain C", plain_xtext_decode},
 };
 
 static const struct row encode_rows[] = {
-    {"proved", proved_encode},
-    {"plain C", plain_encode},
+    {"proved", encode_by_proved},
+    {"plain C", encode_by_plain},
 };
 
 /* --- the inputs --- */
@@ -77,48 +52,24 @@ static size_t make_text(size_t letters, size_t one_in, uint8_t *text) {
     return letters;
 }
 
-static size_t bytes_plain(size_t letters, uint8_t *bytes) {
-    return make_bytes(letters, NEVER, bytes);
-}
-
-static size_t bytes_mixed(size_t letters, uint8_t *bytes) {
-    return make_bytes(letters, ONE_IN_EIGHT, bytes);
-}
-
-static size_t bytes_escaped(size_t letters, uint8_t *bytes) {
-    return make_bytes(letters, ALWAYS, bytes);
-}
-
-static size_t text_plain(size_t letters, uint8_t *text) {
-    return make_text(letters, NEVER, text);
-}
-
-static size_t text_mixed(size_t letters, uint8_t *text) {
-    return make_text(letters, ONE_IN_EIGHT, text);
-}
-
-static size_t text_escaped(size_t letters, uint8_t *text) {
-    return make_text(letters, ALWAYS, text);
-}
-
-static size_t text_damaged(size_t letters, uint8_t *text) {
-    make_text(letters, ONE_IN_EIGHT, text);
+static size_t make_damaged(size_t letters, size_t one_in, uint8_t *text) {
+    make_text(letters, one_in, text);
     text[letters - 1] = '=';
     return letters;
 }
 
 static const struct table tables[] = {
-    {"measure", "plain", measure_rows, COUNT(measure_rows), text_plain},
-    {"measure", "mixed", measure_rows, COUNT(measure_rows), text_mixed},
-    {"measure", "escaped", measure_rows, COUNT(measure_rows), text_escaped},
-    {"measure", "damaged last", measure_rows, COUNT(measure_rows), text_damaged},
-    {"decode", "plain", decode_rows, COUNT(decode_rows), text_plain},
-    {"decode", "mixed", decode_rows, COUNT(decode_rows), text_mixed},
-    {"decode", "escaped", decode_rows, COUNT(decode_rows), text_escaped},
-    {"decode", "damaged last", decode_rows, COUNT(decode_rows), text_damaged},
-    {"encode", "plain", encode_rows, COUNT(encode_rows), bytes_plain},
-    {"encode", "mixed", encode_rows, COUNT(encode_rows), bytes_mixed},
-    {"encode", "escaped", encode_rows, COUNT(encode_rows), bytes_escaped},
+    {"measure", "plain", measure_rows, 2, make_text, NEVER},
+    {"measure", "mixed", measure_rows, 2, make_text, ONE_IN_EIGHT},
+    {"measure", "escaped", measure_rows, 2, make_text, ALWAYS},
+    {"measure", "damaged last", measure_rows, 2, make_damaged, ONE_IN_EIGHT},
+    {"decode", "plain", decode_rows, COUNT(decode_rows), make_text, NEVER},
+    {"decode", "mixed", decode_rows, COUNT(decode_rows), make_text, ONE_IN_EIGHT},
+    {"decode", "escaped", decode_rows, COUNT(decode_rows), make_text, ALWAYS},
+    {"decode", "damaged last", decode_rows, COUNT(decode_rows), make_damaged, ONE_IN_EIGHT},
+    {"encode", "plain", encode_rows, COUNT(encode_rows), make_bytes, NEVER},
+    {"encode", "mixed", encode_rows, COUNT(encode_rows), make_bytes, ONE_IN_EIGHT},
+    {"encode", "escaped", encode_rows, COUNT(encode_rows), make_bytes, ALWAYS},
 };
 
 /* One octet in one, two, .. or eight escaped, or none. */
