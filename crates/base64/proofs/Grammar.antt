@@ -4,7 +4,8 @@ use mathlib.Core.Path.{_≡_}
 use mathlib.Core.Bool.{true, false≢true}
 use mathlib.Core.List.{List, [], _∷_, _++_}
 use Prim.Native.Nat.{ℕ, _%_, _<_}
-use Rattle.base64.specs.Base64.{value, pad, joined, octet1, octet2, octet3, groupOf, octetsOf, isEmpty, follows, valid, octets}
+use Rattle.octets.specs.Lists.{isEmpty}
+use Rattle.base64.specs.Base64.{value, pad, joined, octet1, octet2, octet3, groupOf, octetsOf, follows, valid, octets}
 use Rattle.base64.specs.declared.Group.{Group}
 use Rattle.base64.proofs.Groups.{Cases, is-one, is-two, is-three, is-bad, cases}
 

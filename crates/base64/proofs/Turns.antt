@@ -10,7 +10,8 @@ use lib.Seq.{drop-cons, sets}
 use Rattle.octets.specs.declared.Measured.{Measured}
 use Rattle.octets.proofs.Answers.{resumed, resumed-zero}
 use Rattle.octets.proofs.Lists.{drop-four, sets-append}
-use Rattle.base64.specs.Base64.{value, joined, letters, three, octetsOf, isEmpty, follows, valid, octets, measured}
+use Rattle.octets.specs.Lists.{isEmpty}
+use Rattle.base64.specs.Base64.{value, joined, letters, three, octetsOf, follows, valid, octets, measured}
 use Rattle.base64.specs.Private.{groupAt, lettersAt, last}
 use Rattle.base64.specs.declared.Group.{Group}
 use Rattle.base64.specs.declared.Group.the-variants.{One, Two, Three, Bad}

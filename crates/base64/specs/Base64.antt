@@ -5,6 +5,7 @@ use Prim.Native.Nat.{ℕ, _+_, _*_, _/_, _%_, _^_}
 use lib.Dec.{ltb, eqb}
 use lib.ListN.{length, getD}
 use Rattle.octets.specs.Alphabet.{index}
+use Rattle.octets.specs.Lists.{isEmpty}
 use Rattle.octets.specs.Answers
 use Rattle.octets.specs.declared.Measured.{Measured}
 use Rattle.octets.specs.declared.Decoded.{Decoded}
@@ -113,10 +114,6 @@ octetsOf (Three x y z) = x ∷ y ∷ z ∷ []
 octetsOf Bad = []
 
 -- after four letters the text may go on, after "=" it ends
-abbrev pub isEmpty : List ℕ → Bool
-isEmpty [] = true
-isEmpty (x ∷ l) = false
-
 abbrev pub follows : Group → Bool → Bool → Bool
 follows (One x) end rest = end
 follows (Two x y) end rest = end

@@ -4,3 +4,4 @@ pub mod Table
 pub mod Alphabet
 pub mod Cases
 pub mod Answers
+pub mod Words

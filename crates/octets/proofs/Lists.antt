@@ -1,11 +1,11 @@
 -- Lists at an index: a part, what stands from there on, what is stored there. Assumes nothing.
 use mathlib.Core.Path.{_≡_, refl, sym, _∙_, ap}
 use mathlib.Core.List.{List, [], _∷_, _++_}
-use Prim.Native.Nat.{ℕ, zero, suc, _+_, _-_, _≤_, min}
+use Prim.Native.Nat.{ℕ, zero, suc, _+_, _-_, _<_, _≤_, min}
 use native.Mathlib.Nat.{add-zero, sub-zero, zero-sub}
 use native.Mathlib.Numerals.{add-one, add-two, add-three, add-four}
 use native.Mathlib.Omega.{arith}
-use lib.ListN.{length, getD, take, drop, length-take, drop-of-length-le}
+use lib.ListN.{length, getD, take, drop, set, length-take, drop-of-length-le}
 use lib.Seq.{drop-cons, take-nil, take-all, sets, slice}
 
 -- a part, as code cuts it out of a slice
@@ -44,3 +44,12 @@ sets-append o n (x ∷ u) v = sets-append _ (suc n) u v ∙ ap (λ (k : ℕ). se
 -- a store of the first part of what is left to store
 pub store-part : (o w l u v : List ℕ) (n : ℕ) → sets o n l ≡ w → l ≡ u ++ v → sets (sets o n u) (n + length u) v ≡ w
 store-part o w l u v n inv e = sym (sets-append o n u v) ∙ ap (λ (x : List ℕ). sets o n x) (sym e) ∙ inv
+
+-- the next octet of a list stored, and all of it stored
+pub stored-one : (o w l : List ℕ) (at i : ℕ) → i < length l → sets o (at + i) (drop i l) ≡ w → sets (set o (at + i) (getD l i 0)) (at + (i + 1)) (drop (i + 1) l) ≡ w
+stored-one o w l at i h inv =
+    let e : at + (i + 1) ≡ suc (at + i) = omega arith in
+    rw (e, add-one) (rw (drop-cons l i 0 h) at inv)
+
+pub stored-all : (o w l : List ℕ) (at i : ℕ) → length l ≤ i → sets o (at + i) (drop i l) ≡ w → o ≡ w
+stored-all o w l at i h inv = rw (drop-of-length-le l {i = i} h) at inv

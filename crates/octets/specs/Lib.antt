@@ -2,3 +2,4 @@
 pub mod Answers
 pub mod Alphabet
 pub mod Lists
+pub mod Ascii

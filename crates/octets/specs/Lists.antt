@@ -1,5 +1,5 @@
--- Words for what laws say of lists.
-use mathlib.Core.Bool.{Bool, false, _||_}
+-- Words for what definitions and laws say of lists.
+use mathlib.Core.Bool.{Bool, true, false, cond, _&&_, _||_}
 use mathlib.Core.List.{List, [], _∷_}
 use Prim.Native.Nat.{ℕ, _<_}
 use lib.Dec.{eqb}
@@ -9,7 +9,32 @@ abbrev pub Octets : List ℕ → Type 0
 Octets [] = Unit {0}
 Octets (x ∷ l) = (x < 256) × Octets l
 
+abbrev pub isEmpty : List ℕ → Bool
+isEmpty [] = true
+isEmpty (x ∷ l) = false
+
 -- whether x stands in the list
 abbrev pub holds : ℕ → List ℕ → Bool
 holds x [] = false
 holds x (y ∷ l) = eqb y x || holds x l
+
+-- whether each element passes a test
+unfoldable pub every : {A : Type 0} → (A → Bool) → List A → Bool
+every f [] = true
+every f (x ∷ l) = f x && every f l
+
+-- whether two lists are the same
+unfoldable pub same : List ℕ → List ℕ → Bool
+same [] [] = true
+same [] (y ∷ m) = false
+same (x ∷ l) [] = false
+same (x ∷ l) (y ∷ m) = eqb x y && same l m
+
+-- what stands before the first x, the whole list where there is none; and what stands after it, nothing where there is none
+unfoldable pub before : ℕ → List ℕ → List ℕ
+before x [] = []
+before x (y ∷ l) = cond (eqb y x) [] (y ∷ before x l)
+
+unfoldable pub after : ℕ → List ℕ → List ℕ
+after x [] = []
+after x (y ∷ l) = cond (eqb y x) l (after x l)
