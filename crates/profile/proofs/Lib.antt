@@ -1,0 +1,2 @@
+-- The laws of the limits, the replies and the numbers.
+pub mod Laws
