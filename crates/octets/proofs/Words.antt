@@ -7,7 +7,7 @@ use native.Mathlib.Numerals.{add-one}
 use native.Mathlib.Omega.{arith}
 use borrow.Author.Tests.{eq-eqb, ne-eqb, eqb-true, le-leb, lt-leb, lt-ltb}
 use lib.Dec.{eqb, ltb, leb·suc-suc}
-use lib.ListN.{length, getD, drop, take, drop-of-length-le, length-map, List·getD-map}
+use lib.ListN.{length, getD, drop, take, drop-of-length-le, length-drop, length-map, List·getD-map}
 use lib.Seq.{drop-cons}
 use Rattle.octets.specs.Lists.{holds, same, before, after}
 use Rattle.octets.specs.Ascii.{capital, capitals}
@@ -113,6 +113,10 @@ length-before x (y ∷ l) = go (eqb y x) (length-before x l)
     go : (t : Bool) → length (before x l) ≤ length l → length (cond t [] (y ∷ before x l)) ≤ suc (length l)
     go true h = omega arith
     go false h = omega arith
+
+-- so a search that begins within a line ends within it
+pub find-within : (x : ℕ) (l : List ℕ) (i : ℕ) → i ≤ length l → i + length (before x (drop i l)) ≤ length l
+find-within x l i h = omega (arith, length-before x (drop i l), length-drop i l)
 
 pub holds-before : (x : ℕ) (l : List ℕ) → holds x l ≡ ltb (length (before x l)) (length l)
 unfolding before

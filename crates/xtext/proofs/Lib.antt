@@ -2,4 +2,5 @@
 pub mod Characters
 pub mod Grammar
 pub mod Turns
+pub mod Walk
 pub mod Laws

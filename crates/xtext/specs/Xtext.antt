@@ -9,6 +9,7 @@ use Rattle.octets.specs.Answers
 use Rattle.octets.specs.declared.Measured.{Measured}
 use Rattle.octets.specs.declared.Decoded.{Decoded}
 use Rattle.octets.specs.declared.Encoded.{Encoded}
+use Rattle.xtext.specs.declared.Character.{Character}
 
 -- "xchar = %x21-2A / %x2C-3C / %x3E-7E"
 abbrev pub xchar : ℕ → Bool
@@ -74,3 +75,13 @@ decodedInto t buffer = Answers.decodedInto (valid t) (octets t) buffer
 
 abbrev pub encoded : List ℕ → ℕ → ℕ → Encoded
 encoded l m at = Answers.encoded (encode l) m at
+
+-- the first character of a text that stands at index i: an xchar for itself, a hexchar for its octet, and the index after it
+unfoldable pub escapeAt : ℕ → List ℕ → Character
+escapeAt i [] = Character.Malformed
+escapeAt i (y ∷ []) = Character.Malformed
+escapeAt i (y ∷ z ∷ r) = cond (hexdig y && hexdig z) (Character.Octet (hexchar y z) (i + 3)) Character.Malformed
+
+unfoldable pub characterAt : ℕ → List ℕ → Character
+characterAt i [] = Character.End
+characterAt i (x ∷ l) = cond (eqb x plus) (escapeAt i l) (cond (xchar x) (Character.Octet x (i + 1)) Character.Malformed)

@@ -2,14 +2,21 @@
 ghost use mathlib.Core.Path.{_≡_};
 ghost use mathlib.Core.Bool.{true};
 ghost use Prim.Native.Nat.{_+_, _*_, _<_, _≤_};
-ghost use lib.ListN.{length};
+ghost use lib.ListN.{length, drop};
 ghost use lib.Seq.{sets, slice};
 ghost use Rattle.octets.specs.Answers.{written};
-ghost use Rattle.xtext.specs.Xtext.{xchar, digits, digit, number, hexdig, hexchar, octets, valid, measured, decoded, decodedInto, encode, encoded};
+ghost use Rattle.xtext.specs.Xtext.{xchar, digits, digit, number, hexdig, hexchar, octets, valid, measured, decoded, decodedInto, encode, encoded, characterAt, escapeAt};
 ghost use Rattle.xtext.specs.Private.{kind, kinds, hexcharAt, spelling};
 use octets::Decoded;
 use octets::Encoded;
 use octets::Measured;
+
+// A character of a text: the octet that it stands for and the index after it. End: the text has none there.
+pub enum Character {
+    End,
+    Malformed,
+    Octet { value: u8, next: usize },
+}
 
 // How many octets a text decodes to. It writes nothing.
 pub fn measure(text: &[u8]) -> Measured
@@ -222,4 +229,71 @@ fn spell(k: &[u8; 256], d: &[u8; 16], bytes: &[u8], out: &mut [u8], at: usize) -
         i += 1;
     }
     n
+}
+
+// The character of a text at index i. Compared directly, with no table, so that a call for one character costs no more than that.
+pub fn character_at(text: &[u8], i: usize) -> Character
+    ensures { λ r. ⌜ r ≡ characterAt i (drop i (now (text .entry))) ⌝ }
+{
+    if text.len() <= i {
+        return Character::End;
+    }
+    let x = text[i];
+    if x == b'+' {
+        return escape_at(text, i);
+    }
+    if stands_for_itself(x) {
+        return Character::Octet {
+            value: x,
+            next: i + 1,
+        };
+    }
+    Character::Malformed
+}
+
+// The same where "+" stands at index i.
+fn escape_at(text: &[u8], i: usize) -> Character
+    requires { ⌜ i < length (now text) ⌝ }
+    ensures { λ r. ⌜ r ≡ escapeAt i (drop (i + 1) (now (text .entry))) ⌝ }
+{
+    if text.len() - i < 3 {
+        return Character::Malformed;
+    }
+    let y = number(text[i + 1]);
+    if 16 <= y {
+        return Character::Malformed;
+    }
+    let z = number(text[i + 2]);
+    if 16 <= z {
+        return Character::Malformed;
+    }
+    Character::Octet {
+        value: y * 16 + z,
+        next: i + 3,
+    }
+}
+
+fn stands_for_itself(x: u8) -> bool
+    ensures { λ r. ⌜ r ≡ xchar x ⌝ }
+{
+    (0x21 <= x) & (x <= 0x2A) | (0x2C <= x) & (x <= 0x3C) | (0x3E <= x) & (x <= 0x7E)
+}
+
+// The number of a digit, and 16 of any other octet.
+fn number(x: u8) -> u8
+    ensures { λ r. ⌜ r ≡ number x ⌝ }
+{
+    if x < 48 {
+        return 16;
+    }
+    if x < 58 {
+        return x - 48;
+    }
+    if x < 65 {
+        return 16;
+    }
+    if x < 71 {
+        return x - 55;
+    }
+    16
 }

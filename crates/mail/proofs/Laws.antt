@@ -1,0 +1,130 @@
+-- The laws of the MAIL line's reading. Assumes nothing.
+use mathlib.Core.Path.{_≡_, refl, sym, _∙_, ap}
+use mathlib.Core.Bool.{Bool, true, false, cond, not, _&&_, _||_, false≢true}
+use mathlib.Core.List.{List, [], _∷_}
+use Prim.Native.Nat.{ℕ, suc, _+_, _-_, _≤_}
+use native.Mathlib.Nat.{add-zero}
+use native.Mathlib.Omega.{arith}
+use lib.Dec.{leb, eqb}
+use lib.ListN.{length, take, drop, length-take, length-drop, length-map}
+use lib.Seq.{slice, drop-drop}
+use Rattle.octets.specs.Ascii.{capital, capitals}
+use Rattle.octets.specs.Lists.{every, before, after}
+use Rattle.octets.proofs.Cases.{both, split}
+use Rattle.octets.proofs.Lists.{cut}
+use Rattle.octets.proofs.Words.{same-true, after-drop}
+use Rattle.xtext.specs.Xtext
+use Rattle.xtext.proofs.Laws.{length-octets}
+use Rattle.mail.specs.Address.{address}
+use Rattle.mail.specs.Parameter.{equals, parameter, named, good, null, AUTH, SUBMITTER, authValue, submitterValue}
+use Rattle.mail.specs.Mail.{space, greater, opens, pathEnds, rest, onto, words, spaced, parameters, count, allGood, said, identity, wellFormed, mail, addressText}
+use Rattle.mail.specs.declared.Mail.the-variants.{Malformed, Null, Address}
+use Rattle.mail.proofs.Whole.{rest-drop}
+
+-- words stand in a line one after the other, the first at index i
+abbrev Placed : List ℕ → ℕ → List (List ℕ) → Type 0
+Placed l i [] = Unit {0}
+Placed l i (w ∷ ws) = (take (length w) (drop i l) ≡ w) × Placed l (i + length w + 1) ws
+
+module _ (l : List ℕ) where
+  onto-placed : (x : ℕ) (m : List ℕ) (i : ℕ) (ws : List (List ℕ)) → drop i l ≡ x ∷ m → drop (i + 1) l ≡ m → Placed l (i + 1) ws → Placed l i (onto x ws)
+  onto-placed x m i [] e f h = (rw e, tt)
+  onto-placed x m i (w ∷ ws) e f h =
+      let z : i + 1 + length w + 1 ≡ i + suc (length w) + 1 = omega arith in
+      (rw e (ap (λ (t : List ℕ). x ∷ t) (rw f at (h .0))), rw z at (h .1))
+
+  placed : (m : List ℕ) (i : ℕ) → drop i l ≡ m → Placed l i (words m)
+  unfolding words
+  placed [] i e = (refl, tt)
+  placed (x ∷ m) i e = go (eqb x space) (placed m (i + 1) next)
+    where
+      next : drop (i + 1) l ≡ m
+      next = sym (drop-drop 1 i l) ∙ ap (drop 1) e
+
+      go : (b : Bool) → Placed l (i + 1) (words m) → Placed l i (cond b ([] ∷ words m) (onto x (words m)))
+      go true h = (refl, rw add-zero h)
+      go false h = onto-placed x m i (words m) e next h
+
+-- the value of an AUTH parameter that stands at index i
+module _ (l w : List ℕ) (i : ℕ) (p : take (length w) (drop i l) ≡ w) (a : named AUTH w ≡ true) where
+  key-length : length (before equals w) ≡ length AUTH
+  unfolding named
+  key-length = sym (length-map (before equals w) capital) ∙ ap length (same-true (capitals (before equals w)) AUTH a)
+
+  value-is : drop (suc (length AUTH)) (take (length w) (drop i l)) ≡ after equals w
+  value-is = rw p (ap (λ (n : ℕ). drop (suc n) w) (sym key-length) ∙ sym (after-drop equals w))
+
+  value-length : length (after equals w) ≡ length w - suc (length AUTH)
+  value-length = ap length (sym value-is) ∙ length-drop (suc (length AUTH)) (take (length w) (drop i l)) ∙ ap (λ (t : List ℕ). length t - suc (length AUTH)) p
+
+  value-placed : slice (i + length AUTH + 1) (i + length AUTH + 1 + length (after equals w)) l ≡ after equals w
+  value-placed =
+      let from = i + length AUTH + 1 in
+      let y : from + length (after equals w) - from ≡ length w - suc (length AUTH) = omega (arith, value-length) in
+      let z : i + suc (length AUTH) ≡ from = omega arith in
+      sym (cut from (from + length (after equals w)) l)
+      ∙ ap (λ (n : ℕ). take n (drop from l)) y
+      ∙ ap (λ (n : ℕ). take (length w - suc (length AUTH)) (drop n l)) (sym z)
+      ∙ ap (take (length w - suc (length AUTH))) (sym (drop-drop (suc (length AUTH)) i l))
+      ∙ cut (suc (length AUTH)) (length w) (drop i l)
+      ∙ value-is
+
+-- what a text has that is xtext of an address of n octets
+abbrev pub Reads : List ℕ → ℕ → Type 0
+Reads t n = (Xtext.valid t ≡ true) × (n ≡ length (Xtext.octets t)) × (address (Xtext.octets t) ≡ true)
+
+said-address : (v : List ℕ) (i from to n : ℕ) → authValue v ≡ true → said i v ≡ Address from to n → (from ≡ i) × (to ≡ i + length v) × Reads v n
+unfolding authValue said
+said-address v i from to n e f = go (Xtext.valid v) (null v) (address (Xtext.octets v)) e f
+  where
+    go : (a b c : Bool) → (a && (b || c)) ≡ true → cond b Null (Address i (i + length v) (length (Xtext.octets v))) ≡ Address from to n
+        → (from ≡ i) × (to ≡ i + length v) × ((a ≡ true) × (n ≡ length (Xtext.octets v)) × (c ≡ true))
+    go false b c e f = absurd (false≢true e)
+    go true true c e f = let z : _≡_ {A = ℕ} 0 1 = cc in absurd (omega arith)
+    go true false true e f = ((cc), (cc), (refl, (cc), refl))
+    go true false false e f = absurd (false≢true e)
+
+good-auth : (w : List ℕ) → good w ≡ true → named AUTH w ≡ true → authValue (after equals w) ≡ true
+unfolding good
+good-auth w e a =
+    let h = both (parameter w && (not (named AUTH w) || authValue (after equals w))) (not (named SUBMITTER w) || submitterValue (after equals w)) e in
+    rw a at (both (parameter w) (not (named AUTH w) || authValue (after equals w)) (h .0) .1)
+
+identity-read : (l : List ℕ) (ws : List (List ℕ)) (i from to n : ℕ) → Placed l i ws → every good ws ≡ true → identity i ws ≡ Address from to n → Reads (slice from to l) n
+unfolding identity every
+identity-read l [] i from to n h e f = let z : _≡_ {A = ℕ} 0 1 = cc in absurd (omega arith)
+identity-read l (w ∷ ws) i from to n h e f =
+    let g = both (good w) (every good ws) e in
+    split (named AUTH w)
+    (λ a.
+    let s = said-address (after equals w) (i + length AUTH + 1) from to n (good-auth w (g .0) a) (rw a at f) in
+    rw (s .0, s .1, value-placed l w i (h .0) a) (s .2))
+    (λ a. identity-read l ws (i + length w + 1) from to n (h .1) (g .1) (rw a at f))
+
+-- what a reading points to is xtext of an address of the length told
+module _ (l : List ℕ) (from to n : ℕ) (e : mail l ≡ Address from to n) where
+  rest-read : (r : List ℕ) (j : ℕ) → r ≡ drop j l → every good (parameters r) ≡ true → identity (length l - length r + 1) (parameters r) ≡ Address from to n → Reads (slice from to l) n
+  unfolding identity
+  rest-read [] j g h f = let z : _≡_ {A = ℕ} 0 1 = cc in absurd (omega arith)
+  rest-read (x ∷ r) j g h f =
+      let y : length l - length (x ∷ r) + 1 ≡ j + 1 = omega (arith, ap length g, length-drop j l) in
+      let z : drop (j + 1) l ≡ r = sym (drop-drop 1 j l) ∙ ap (drop 1) (sym g) in
+      identity-read l (words r) (j + 1) from to n (placed l r (j + 1) z) h (rw y at f)
+
+  pub address-read : (Xtext.valid (addressText (Address from to n) l) ≡ true) × (n ≡ length (Xtext.octets (addressText (Address from to n) l))) × (address (Xtext.octets (addressText (Address from to n) l)) ≡ true)
+  unfolding mail wellFormed allGood
+  address-read = go (wellFormed l) refl e
+    where
+      go : (b : Bool) → wellFormed l ≡ b → cond b (identity (length l - length (rest l) + 1) (parameters (rest l))) Malformed ≡ Address from to n → Reads (slice from to l) n
+      go true w f =
+          let ps = parameters (rest l) in
+          let h = both (opens l && pathEnds l && spaced (rest l)) (allGood ps) w .1 in
+          let k = both (every good ps && leb (count AUTH ps) 1) (leb (count SUBMITTER ps) 1) h .0 in
+          rest-read (rest l) (11 + suc (length (before greater (drop 11 l)))) (rest-drop l) (both (every good ps) (leb (count AUTH ps) 1) k .0) f
+      go false w f = let z : _≡_ {A = ℕ} 0 1 = cc in absurd (omega arith)
+
+  -- so its octets fit where the line does
+  pub address-within : n ≤ length l
+  address-within =
+      let t = addressText (Address from to n) l in
+      omega (arith, address-read .1, length-octets t, length-drop from (take to l), length-take to l)

@@ -1,0 +1,14 @@
+use borrow.Author.Needs.{needs}
+use Rattle.mail.proofs.parameter.is_of.Statement.{statement}
+use Rattle.mail.proofs.parameter.is_of.Tie as tie
+
+pub is-of-spec : {M : Type 1} → statement M
+is-of-spec =
+    tie.close
+    (tie.spec
+    (λ c. search needs)
+    (λ c κs. search needs)
+    (λ c. search needs)
+    (λ c κs. search needs)
+    (λ c. rw (c .before .enum-told .given .1) (c .is-keyword-char .ensures))
+    (λ c. rw (c .before .enum-told2 .given .1) (c .is-value-char .ensures)))

@@ -1,0 +1,5 @@
+-- The definitions that the promises of mail cite.
+pub mod Address
+pub mod Parameter
+pub mod Mail
+pub mod Private
