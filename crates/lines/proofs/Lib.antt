@@ -1,0 +1,10 @@
+-- What the proofs of lines share, and its laws.
+pub mod Lists
+pub mod Names
+pub mod Verbs
+pub mod Auths
+pub mod Responses
+pub mod Commands
+pub mod Alikes
+pub mod Readings
+pub mod Laws

@@ -1,0 +1,8 @@
+-- The definitions that the promises of lines cite.
+pub mod Mechanism
+pub mod Verb
+pub mod Auth
+pub mod Response
+pub mod Command
+pub mod Alike
+pub mod Private
