@@ -5,6 +5,7 @@
 """
 import base64
 import binascii
+import re
 import sys
 
 LARGEST = 2**64 - 1
@@ -144,7 +145,209 @@ def xtext_cases():
     all_octets("xtext")
 
 
+# document 01's tables: the limits, and what a client hears ("same": -ERR, a space and the words after the codes)
+LIMITS = {
+    "smtp": {"command": 510, "MAIL": 1010, "response": 12286},
+    "pop3": {"command": 253, "MAIL": 253, "response": 12286},
+}
+REPLIES = [
+    ("success", "235 2.7.0 Authentication succeeded", "+OK Authenticated"),
+    ("transition", "432 4.7.12 Password transition needed", "-ERR [AUTH] Password transition needed"),
+    ("temporary", "454 4.7.0 Temporary authentication failure", "-ERR [SYS/TEMP] Temporary authentication failure"),
+    ("weak", "534 5.7.9 Mechanism too weak", "same"),
+    ("rejected", "535 5.7.8 Credentials not accepted", "-ERR [AUTH] Credentials not accepted"),
+    ("answer too long", "500 5.5.6 Authentication line too long", "same"),
+    ("command too long", "500 5.5.2 Line not understood", "same"),
+    ("grammar or base64", "501 5.5.2 Syntax error", "same"),
+    ('"*"', "501 5.7.0 Authentication cancelled", "same"),
+    ("initial response", "501 5.7.0 Initial response not allowed", "same"),
+    ("wrong moment", "503 5.5.1 Not permitted now", "same"),
+    ("mechanism absent", "504 5.5.4 Mechanism not available", "same"),
+]
+AUTH = re.compile(rb"(?i:AUTH) ([A-Z0-9_-]{1,20})(?: (.+))?", re.DOTALL)
+MAIL = re.compile(rb"(?i:MAIL FROM:)<[^>]*>((?: [A-Za-z0-9][A-Za-z0-9-]*(?:=[!-<>-~]+)?)*)", re.DOTALL)
+
+
+def read_auth(line):
+    """Shown numbers, and what the line has beside them; None where it is malformed."""
+    match = AUTH.fullmatch(line)
+    if not match:
+        return None
+    name, text = match[1], match[2]
+    if text is None:
+        return f"AUTH up to {match.end(1)}", [name.ljust(20, b"\0")]
+    octets = b"" if text == b"=" else base64_decoded(text)
+    if octets is None:
+        return None
+    start = len(line) if text == b"=" else match.start(2)
+    return f"AUTH up to {match.end(1)}, from {start} length {len(octets)}", [name.ljust(20, b"\0"), octets]
+
+
+def is_address(octets):
+    """An octet before and after some "@"."""
+    return re.search(b".@.", octets, re.DOTALL) is not None
+
+
+def read_mail(line):
+    match = MAIL.fullmatch(line)
+    if not match:
+        return None
+    found, place, shown = set(), match.start(1), ("MAIL, no AUTH", [])
+    for parameter in match[1].split(b" ")[1:]:
+        place += 1
+        keyword, _, value = parameter.partition(b"=")
+        if keyword.upper() in (b"AUTH", b"SUBMITTER"):
+            octets = xtext_decoded(value)
+            null = keyword.upper() == b"AUTH" and octets == b"<>"
+            if keyword.upper() in found or octets is None or not (null or is_address(octets)):
+                return None
+            found.add(keyword.upper())
+            if null:
+                shown = "MAIL, AUTH <>", []
+            elif keyword.upper() == b"AUTH":
+                shown = f"MAIL, AUTH from {place + 5} to {place + len(parameter)} length {len(octets)}", [octets]
+        place += len(parameter)
+    return shown
+
+
+def read_command(profile, line):
+    verb = line.split(b" ")[0].upper()
+    limit = LIMITS[profile]["MAIL" if verb == b"MAIL" else "command"]
+    if len(line) > limit or any(x in line for x in b"\0\r\n"):
+        return "not understood", []
+    if verb == b"AUTH":
+        return read_auth(line) or ("AUTH malformed", [])
+    if profile == "pop3":
+        return ("not permitted" if verb in (b"USER", b"PASS", b"APOP") else "other"), []
+    if verb == b"MAIL":
+        return read_mail(line) or ("MAIL malformed", [])
+    if verb in (b"EHLO", b"HELO"):
+        return (verb.decode() if len(line) > 5 else "malformed"), []
+    if verb in (b"RSET", b"QUIT"):
+        return (verb.decode() if len(line) == 4 else "malformed"), []
+    return "other", []
+
+
+def read_response(profile, line):
+    if len(line) > LIMITS[profile]["response"]:
+        return "too long", []
+    if line == b"*":
+        return "cancelled", []
+    octets = base64_decoded(line)
+    return measured(octets), [] if octets is None else [octets]
+
+
+def shown(reading):
+    return ", ".join([reading[0], *map(quoted, reading[1])])
+
+
+def each_line(profiles, lines):
+    for profile in profiles:
+        for line in lines.split(b"|"):
+            print(f"{profile} {quoted(line)}: {shown(read_command(profile, line))}")
+
+
+def each_response(profile, lines):
+    for line in lines.split(b"|"):
+        print(f"{profile} response {quoted(line)}: {shown(read_response(profile, line))}")
+
+
+def with_each(profile, line, place):
+    others = [line[:place] + bytes([x]) + line[place + 1:] for x in range(256)]
+    misses = ("not understood", "malformed", "AUTH malformed", "MAIL malformed")
+    count = sum(read_command(profile, other)[0] not in misses for other in others)
+    print(f"{profile} {quoted(line)} with each octet at {place}, read: {count}")
+
+
+def long_line(profile, begin, size, end=b""):
+    line = begin + b"A" * (size - len(begin) - len(end)) + end
+    print(f"{profile} {quoted(begin)} and letters, {size} octets: {read_command(profile, line)[0]}")
+
+
+def long_response(profile, size):
+    print(f"{profile} response of {size} letters: {read_response(profile, b'A' * size)[0]}")
+
+
+def huge(profile):
+    line = b"A" * 100000
+    print(f"{profile} response of {len(line)} letters: {read_response(profile, line)[0]}, as a command {read_command(profile, line)[0]}")
+
+
+def reply_cases():
+    for event, smtp, pop3 in REPLIES:
+        words = "-ERR " + smtp.split(" ", 2)[2] if pop3 == "same" else pop3
+        print(f"smtp {event}: {quoted((smtp + chr(13) + chr(10)).encode())}")
+        print(f"pop3 {event}: {quoted((words + chr(13) + chr(10)).encode())}")
+    print(f"smtp challenge begins: {quoted(b'334 ')}")
+    print(f"pop3 challenge begins: {quoted(b'+ ')}")
+
+
+BOTH = "smtp", "pop3"
+
+
+def line_cases():
+    each_line(BOTH, b"EHLO client.example.com|ehlo a|EHLO|EHLO |EHLO  |HELO a|Helo a|HELO|HELO |RSET|rset|RSET |RSET x|QUIT|Quit|QUIT |QUIT x|STARTTLS|CAPA|")
+    each_line(BOTH, b" EHLO a|EHL|EHLOX a|EHLO\ta|RSET\t|AUTH\tPLAIN|MAILX FROM:<a>|USER anna|user|PASS x|pass|APOP a b|apop|USERS|USER\t")
+    each_line(BOTH, b"NOOP\x00|NOOP\r|NOOP\n|NOOP\x0c|NOOP\xff|EHLO a\r|AUTH PLAIN\x00|USER a\n|MAIL FROM:<\n>|\x00")
+    with_each("smtp", b"NOOP ", 4)
+    with_each("pop3", b"USER ", 4)
+    each_line(BOTH, b"AUTH PLAIN dGVzdAB0ZXN0ADEyMzQ=|AUTH PLAIN|AUTH CRAM-MD5|AUTH EXTERNAL =|AUTH PLAIN dGVzdAB0ZXN0AHRlc3Q=|AUTH DIGEST-MD5|AUTH PLAIN Zm9v|auth X_Y-9 Zg==|AUTH ABCDEFGHIJKLMNOPQRST|AUTH 0")
+    each_line(BOTH, b"AUTH|AUTH |AUTH  PLAIN|AUTH PLAIN |AUTH PLAIN  Zm9v|AUTH PLAIN Zm9v |AUTH PLAIN Zm9v x|AUTH PLAIN ==|AUTH PLAIN =A|AUTH PLAIN *|AUTH PLAIN Zh==|AUTH PLAIN Zm9|AUTH NOSUCH !!")
+    each_line(BOTH, b"AUTH plain|AUTH PL.AIN|AUTH PLAIN\t|AUTH =|AUTH ABCDEFGHIJKLMNOPQRSTU|AUTH ABCDEFGHIJKLMNOPQRSTU Zm9v|AUTHX PLAIN|AUTHPLAIN")
+    with_each("smtp", b"AUTH PLAIN", 9)
+    with_each("pop3", b"AUTH PLAIN Zm9v", 14)
+    long_line("smtp", b"AUTH PLAIN ", 507)
+    long_line("smtp", b"AUTH PLAIN ", 511)
+    long_line("smtp", b"NOOP ", 510)
+    long_line("smtp", b"NOOP ", 511)
+    long_line("smtp", b"MAILX ", 511)
+    long_line("pop3", b"AUTH PLAIN ", 251)
+    long_line("pop3", b"AUTH PLAIN ", 255)
+    long_line("pop3", b"NOOP ", 253)
+    long_line("pop3", b"NOOP ", 254)
+    long_line("pop3", b"MAIL FROM:<", 254)
+
+
+def mail_cases():
+    each_line(["smtp"], b"MAIL FROM:<e=mc2@example.com> AUTH=e+3Dmc2@example.com|MAIL FROM:<john+@example.org> AUTH=<>|MAIL FROM:<alice@example.com> SUBMITTER=alice@example.com|MAIL FROM:<alice@example.com> SUBMITTER=bob@almamater.edu.example")
+    each_line(["smtp"], b"MAIL FROM:<alice@example.com> SUBMITTER=alice@mobile.net.example|MAIL FROM:<alice@example.com> SUBMITTER=guest.services@email.hotel.com.example|MAIL FROM:<> SUBMITTER=mailer-daemon@almamater.edu.example")
+    each_line(["smtp"], b"MAIL FROM:<>|mail from:<a>|MAIL FROM:<a b> X|MAIL FROM:<<a>|MAIL FROM:<\xff\t\">|MAIL FROM:<a>b>|MAIL FROM:<a|MAIL FROM:a>|MAIL FROM:|MAIL FROM: <a>|MAIL  FROM:<a>|MAIL FROM <a>|MAIL|MAIL |MAIL TO:<a>")
+    with_each("smtp", b"MAIL FROM:<a>", 11)
+    each_line(["smtp"], b"MAIL FROM:<a> SIZE=10 BODY=8BITMIME|MAIL FROM:<a> X|MAIL FROM:<a> X X|MAIL FROM:<a> 8-X-=+3d|MAIL FROM:<a>  X|MAIL FROM:<a> X |MAIL FROM:<a> |MAIL FROM:<a>X|MAIL FROM:<a>\tX|MAIL FROM:<a> X  Y")
+    each_line(["smtp"], b"MAIL FROM:<a> X=|MAIL FROM:<a> =X|MAIL FROM:<a> -X|MAIL FROM:<a> X_Y|MAIL FROM:<a> X=a=b|MAIL FROM:<a> X==|MAIL FROM:<a> X=\x7f|MAIL FROM:<a> X=\x80|MAIL FROM:<a> X=\t")
+    with_each("smtp", b"MAIL FROM:<a> X", 14)
+    with_each("smtp", b"MAIL FROM:<a> XX", 15)
+    with_each("smtp", b"MAIL FROM:<a> X=y", 16)
+    each_line(["smtp"], b"MAIL FROM:<a> auth=a@b|MAIL FROM:<a> Auth=+3C+3E|MAIL FROM:<a> AUTH=+61+40+62 X|MAIL FROM:<a> Y SUBMITTER=a@b AUTH=c@d|MAIL FROM:<a> AUTH=@@@|MAIL FROM:<a> AUTH=a@@|MAIL FROM:<a> AUTH=@@a|MAIL FROM:<a> AUTH=a@b@c|MAIL FROM:<a> AUTH=a@+0D+0A|MAIL FROM:<a> AUTHX=a AUTH-")
+    with_each("smtp", b"MAIL FROM:<a> AUTH=x@y", 20)
+    each_line(["smtp"], b"MAIL FROM:<a> AUTH|MAIL FROM:<a> AUTH=|MAIL FROM:<a> AUTH=a|MAIL FROM:<a> AUTH=@|MAIL FROM:<a> AUTH=@@|MAIL FROM:<a> AUTH=@a|MAIL FROM:<a> AUTH=a@|MAIL FROM:<a> AUTH=<>x|MAIL FROM:<a> AUTH=<|MAIL FROM:<a> AUTH=a+40+|MAIL FROM:<a> AUTH=a@b+3d")
+    each_line(["smtp"], b"MAIL FROM:<a> AUTH=a@b AUTH=a@b|MAIL FROM:<a> AUTH=<> auth=<>|MAIL FROM:<a> SUBMITTER=a@b X submitter=a@b|MAIL FROM:<a> SUBMITTER|MAIL FROM:<a> SUBMITTER=<>|MAIL FROM:<a> SUBMITTER=a|MAIL FROM:<a> AUTH=a@b SUBMITTER=+40a")
+    long_line("smtp", b"MAIL FROM:<", 510, b">")
+    long_line("smtp", b"MAIL FROM:<", 1010, b">")
+    long_line("smtp", b"MAIL FROM:<", 1011, b">")
+    long_line("pop3", b"MAIL FROM:<", 253, b">")
+    long_line("pop3", b"MAIL FROM:<", 254, b">")
+
+
+def response_cases():
+    each_response("smtp", b"dGVzdAB0ZXN0ADEyMzQ=|cmpzMyBlYzNhNTlmZWQzOTVhYmExZWM2MzY3YzRmNGI0MWFjMA==||QUIT|RSET|AUTH|Zm9v|Zg==")
+    each_response("pop3", b"dGVzdAB0ZXN0AHRlc3Q=||QUIT|*|=")
+    each_response("smtp", b"*|**|* | *|=|Zh==|=AAA|Zm9v Zm9v|AUTH PLAIN|EHLO a|MAIL FROM:<>|Zm9v\x00|Zm9v\r|Zm9\n")
+    long_response("smtp", 12284)
+    long_response("smtp", 12286)
+    long_response("smtp", 12287)
+    long_response("pop3", 12284)
+    long_response("pop3", 12286)
+    long_response("pop3", 12287)
+    huge("smtp")
+    huge("pop3")
+
+
 if __name__ == "__main__":
     sys.stdout.reconfigure(newline="\n")
     base64_cases()
     xtext_cases()
+    reply_cases()
+    line_cases()
+    mail_cases()
+    response_cases()

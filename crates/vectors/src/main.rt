@@ -1,11 +1,18 @@
 // Outside vectors, run through the proved functions. What they must print is in the file stdout, which expected.py makes from the papers.
-mod base64_cases;
-mod form;
-mod rows;
+mod each;
+mod line_cases;
+mod long;
+mod mail_cases;
+mod octet_counts;
+mod readings;
+mod reply_cases;
+mod response_cases;
 mod show;
-mod xtext_cases;
 
 fn main() {
-    base64_cases::run();
-    xtext_cases::run();
+    textvectors::run();
+    reply_cases::run();
+    line_cases::run();
+    mail_cases::run();
+    response_cases::run();
 }

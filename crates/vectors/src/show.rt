@@ -1,81 +1,79 @@
-// Printing of texts, octets and answers.
-use crate::form::Form;
-use libc::STDOUT_FILENO;
-use octets::Decoded;
-use octets::Encoded;
-use octets::Measured;
+// Printing of what a line says.
+use lines::auth::Auth;
+use lines::command::Command;
+use lines::response::Response;
+use mail::Mail;
+use profile::Profile;
+use textvectors::show::number;
+use textvectors::show::put;
 
-pub fn put(text: &[u8]) {
-    io::write_all(STDOUT_FILENO, text);
-}
-
-pub fn number(n: usize) {
-    io::print_decimal(STDOUT_FILENO, n as u64);
-}
-
-pub fn form(f: Form) {
-    match f {
-        Form::Base64 => put(b"base64"),
-        Form::Xtext => put(b"xtext"),
+pub fn profile(p: Profile) {
+    match p {
+        Profile::Smtp => put(b"smtp"),
+        Profile::Pop3 => put(b"pop3"),
     }
 }
 
-// Octets in quotes, what is not printable in ASCII as "\x" and two digits.
-pub fn quoted(bytes: &[u8]) {
-    put(b"\"");
-    let mut i: usize = 0;
-    while i < bytes.len() {
-        let x = bytes[i];
-        if (32 <= x) & (x <= 126) {
-            put(octets::part(bytes, i, i + 1));
-        } else {
-            escaped(x);
+fn amount(word: &[u8], n: usize) {
+    put(word);
+    number(n);
+}
+
+fn auth(a: Auth) {
+    match a {
+        Auth::Malformed => {
+            put(b"AUTH malformed");
         }
-        i += 1;
+        Auth::Alone { to } => {
+            amount(b"AUTH up to ", to);
+        }
+        Auth::Initial { to, from, length } => {
+            amount(b"AUTH up to ", to);
+            amount(b", from ", from);
+            amount(b" length ", length);
+        }
     }
-    put(b"\"");
 }
 
-fn escaped(x: u8) {
-    put(b"\\x");
-    io::print_hex(STDOUT_FILENO, x as u64, 2);
-}
-
-pub fn measured(m: Measured) {
+fn mail(m: Mail) {
     match m {
-        Measured::Length(n) => {
-            put(b"length ");
-            number(n);
+        Mail::Malformed => {
+            put(b"MAIL malformed");
         }
-        Measured::Malformed => {
-            put(b"malformed");
+        Mail::Absent => {
+            put(b"MAIL, no AUTH");
         }
-    }
-}
-
-pub fn decoded(d: Decoded) {
-    match d {
-        Decoded::Length(n) => {
-            put(b"length ");
-            number(n);
+        Mail::Null => {
+            put(b"MAIL, AUTH <>");
         }
-        Decoded::Malformed => {
-            put(b"malformed");
-        }
-        Decoded::Short => {
-            put(b"short");
+        Mail::Address { from, to, length } => {
+            amount(b"MAIL, AUTH from ", from);
+            amount(b" to ", to);
+            amount(b" length ", length);
         }
     }
 }
 
-pub fn encoded(e: Encoded) {
-    match e {
-        Encoded::End(n) => {
-            put(b"end ");
-            number(n);
-        }
-        Encoded::Short => {
-            put(b"short");
-        }
+pub fn command(c: Command) {
+    match c {
+        Command::NotUnderstood => put(b"not understood"),
+        Command::Malformed => put(b"malformed"),
+        Command::Ehlo => put(b"EHLO"),
+        Command::Helo => put(b"HELO"),
+        Command::Rset => put(b"RSET"),
+        Command::Quit => put(b"QUIT"),
+        Command::Mail(m) => mail(m),
+        Command::Auth(a) => auth(a),
+        Command::Barred => put(b"not permitted"),
+        Command::Other => put(b"other"),
+    }
+}
+
+pub fn response(r: Response) {
+    match r {
+        Response::TooLong => put(b"too long"),
+        Response::Cancelled => put(b"cancelled"),
+        Response::Malformed => put(b"malformed"),
+        Response::Length(n) => amount(b"length ", n),
     }
 }

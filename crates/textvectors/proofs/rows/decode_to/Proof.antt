@@ -1,11 +1,11 @@
 use lib.ListN.{length-take}
 use native.Mathlib.Omega.{arith}
 use borrow.Author.Needs.{needs}
-use Rattle.vectors.proofs.rows.encode_to.Statement.{statement}
-use Rattle.vectors.proofs.rows.encode_to.Tie as tie
+use Rattle.textvectors.proofs.rows.decode_to.Statement.{statement}
+use Rattle.textvectors.proofs.rows.decode_to.Tie as tie
 
-pub encode-to-spec : {M : Type 1} → statement M
-encode-to-spec =
+pub decode-to-spec : {M : Type 1} → statement M
+decode-to-spec =
     tie.close
     (tie.spec
     (λ c. search needs)

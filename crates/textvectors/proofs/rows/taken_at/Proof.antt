@@ -1,22 +1,23 @@
 use Prim.Native.Nat.{_-_, _≤_}
 use borrow.Author.Needs.{needs}
-use Rattle.vectors.proofs.rows.octets_from_zero.Statement.{statement}
-use Rattle.vectors.proofs.rows.octets_from_zero.Tie as tie
+use Rattle.textvectors.proofs.rows.taken_at.Statement.{statement}
+use Rattle.textvectors.proofs.rows.taken_at.Tie as tie
 
 abbrev Inv-loop : tie.InvT-loop
-Inv-loop a₀ i₀ a i = i ≤ 256
+Inv-loop f text place n₀ x₀ n x = (n ≤ x) × (x ≤ 256)
 
 abbrev μ-loop : tie.MeasureT-loop
-μ-loop a₀ i₀ a i = 256 - i
+μ-loop f text place n₀ x₀ n x = 256 - x
 
-pub octets-from-zero-spec : {M : Type 1} → statement M
-octets-from-zero-spec =
+pub taken-at-spec : {M : Type 1} → statement M
+taken-at-spec =
     tie.close
     (tie.spec
     Inv-loop
     μ-loop
     (λ c. search needs)
     (λ c. search needs)
+    (λ c κs. search needs)
     (λ c. search needs)
     (λ c. search needs)
     (λ c. search needs)

@@ -1,29 +1,32 @@
 use Prim.Native.Nat.{_-_, _≤_}
 use lib.ListN.{length}
 use borrow.Author.Needs.{needs}
-use Rattle.vectors.proofs.rows.read_each.Statement.{statement}
-use Rattle.vectors.proofs.rows.read_each.Tie as tie
+use Rattle.textvectors.proofs.show.quoted.Statement.{statement}
+use Rattle.textvectors.proofs.show.quoted.Tie as tie
 
 abbrev Inv-loop : tie.InvT-loop
-Inv-loop f list from₀ i₀ from i = i ≤ length list
+Inv-loop bytes i₀ t5 i = i ≤ length bytes
 
 abbrev μ-loop : tie.MeasureT-loop
-μ-loop f list from₀ i₀ from i = length list - i
+μ-loop bytes i₀ t5 i = length bytes - i
 
-pub read-each-spec : {M : Type 1} → statement M
-read-each-spec =
+pub quoted-spec : {M : Type 1} → statement M
+quoted-spec =
     tie.close
     (tie.spec
     Inv-loop
     μ-loop
     (λ c. search needs)
-    (λ c. search needs)
-    (λ c κs. search needs)
     (λ c κs. search needs)
     (λ c. search needs)
     (λ c. search needs)
     (λ c. search needs)
-    (λ c. search needs)
     (λ c κs. search needs)
+    (λ c κs. search needs)
+    (λ c κs. search needs)
+    (λ c. search needs)
+    (λ c. search needs)
+    (λ c. search needs)
+    (λ c. search needs)
     (λ c κs. search needs)
     (λ c. search needs))

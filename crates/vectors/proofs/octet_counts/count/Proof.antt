@@ -1,16 +1,16 @@
 use Prim.Native.Nat.{_-_, _≤_}
 use borrow.Author.Needs.{needs}
-use Rattle.vectors.proofs.rows.taken_at.Statement.{statement}
-use Rattle.vectors.proofs.rows.taken_at.Tie as tie
+use Rattle.vectors.proofs.octet_counts.count.Statement.{statement}
+use Rattle.vectors.proofs.octet_counts.count.Tie as tie
 
 abbrev Inv-loop : tie.InvT-loop
-Inv-loop f text place n₀ x₀ n x = (n ≤ x) × (x ≤ 256)
+Inv-loop p line place n₀ x₀ n x = (n ≤ x) × (x ≤ 256)
 
 abbrev μ-loop : tie.MeasureT-loop
-μ-loop f text place n₀ x₀ n x = 256 - x
+μ-loop p line place n₀ x₀ n x = 256 - x
 
-pub taken-at-spec : {M : Type 1} → statement M
-taken-at-spec =
+pub count-spec : {M : Type 1} → statement M
+count-spec =
     tie.close
     (tie.spec
     Inv-loop

@@ -71,15 +71,11 @@ fn again(f: Form, bytes: &[u8]) {
 // Each text of a list, with "|" between them.
 pub fn read_each(f: Form, list: &[u8]) {
     let mut from: usize = 0;
-    let mut i: usize = 0;
-    while i < list.len() {
-        if list[i] == b'|' {
-            read(f, octets::part(list, from, i));
-            from = i + 1;
-        }
-        i += 1;
+    while from <= list.len() {
+        let to = octets::find(list, from, b'|');
+        read(f, octets::part(list, from, to));
+        from = to + 1;
     }
-    read(f, octets::part(list, from, i));
 }
 
 // A part of a line, decoded into a row of dots.
