@@ -164,6 +164,7 @@ REPLIES = [
     ("wrong moment", "503 5.5.1 Not permitted now", "same"),
     ("mechanism absent", "504 5.5.4 Mechanism not available", "same"),
 ]
+BOTH = "smtp", "pop3"
 AUTH = re.compile(rb"(?i:AUTH) ([A-Z0-9_-]{1,20})(?: (.+))?", re.DOTALL)
 MAIL = re.compile(rb"(?i:MAIL FROM:)<[^>]*>((?: [A-Za-z0-9][A-Za-z0-9-]*(?:=[!-<>-~]+)?)*)", re.DOTALL)
 
@@ -273,6 +274,15 @@ def huge(profile):
     print(f"{profile} response of {len(line)} letters: {read_response(profile, line)[0]}, as a command {read_command(profile, line)[0]}")
 
 
+def number_cases():
+    """Profiles as document 01 numbers them; verdicts in its order from 0."""
+    for number in (0, 1, 2, 256, LARGEST):
+        print(f"profile {number}: {dict(enumerate(BOTH)).get(number, 'not listed')}")
+    verdicts = dict(enumerate(("challenge", "success", "rejected", "temporary", "transition", "weak")))
+    for number in (*range(7), 256, LARGEST):
+        print(f"verdict {number}: {verdicts.get(number, 'not listed')}")
+
+
 def reply_cases():
     for event, smtp, pop3 in REPLIES:
         words = "-ERR " + smtp.split(" ", 2)[2] if pop3 == "same" else pop3
@@ -280,9 +290,6 @@ def reply_cases():
         print(f"pop3 {event}: {quoted((words + chr(13) + chr(10)).encode())}")
     print(f"smtp challenge begins: {quoted(b'334 ')}")
     print(f"pop3 challenge begins: {quoted(b'+ ')}")
-
-
-BOTH = "smtp", "pop3"
 
 
 def line_cases():
@@ -347,6 +354,7 @@ if __name__ == "__main__":
     sys.stdout.reconfigure(newline="\n")
     base64_cases()
     xtext_cases()
+    number_cases()
     reply_cases()
     line_cases()
     mail_cases()

@@ -3,6 +3,7 @@ mod each;
 mod line_cases;
 mod long;
 mod mail_cases;
+mod number_cases;
 mod octet_counts;
 mod readings;
 mod reply_cases;
@@ -11,6 +12,7 @@ mod show;
 
 fn main() {
     textvectors::run();
+    number_cases::run();
     reply_cases::run();
     line_cases::run();
     mail_cases::run();

@@ -4,6 +4,7 @@ use lines::command::Command;
 use lines::response::Response;
 use mail::Mail;
 use profile::Profile;
+use profile::numbers::Verdict;
 use textvectors::show::number;
 use textvectors::show::put;
 
@@ -75,5 +76,16 @@ pub fn response(r: Response) {
         Response::Cancelled => put(b"cancelled"),
         Response::Malformed => put(b"malformed"),
         Response::Length(n) => amount(b"length ", n),
+    }
+}
+
+pub fn verdict(v: Verdict) {
+    match v {
+        Verdict::Challenge => put(b"challenge"),
+        Verdict::Success => put(b"success"),
+        Verdict::Rejected => put(b"rejected"),
+        Verdict::Temporary => put(b"temporary"),
+        Verdict::Transition => put(b"transition"),
+        Verdict::Weak => put(b"weak"),
     }
 }

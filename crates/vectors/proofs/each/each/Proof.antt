@@ -3,17 +3,17 @@ use lib.ListN.{length}
 use native.Mathlib.Omega.{arith}
 use borrow.Author.Needs.{needs}
 use Rattle.octets.proofs.Words.{find-within}
-use Rattle.vectors.proofs.each.responses.Statement.{statement}
-use Rattle.vectors.proofs.each.responses.Tie as tie
+use Rattle.vectors.proofs.each.each.Statement.{statement}
+use Rattle.vectors.proofs.each.each.Tie as tie
 
 abbrev Inv-loop : tie.InvT-loop
-Inv-loop p list from₀ from = from ≤ length list + 1
+Inv-loop c list from₀ from = from ≤ length list + 1
 
 abbrev μ-loop : tie.MeasureT-loop
-μ-loop p list from₀ from = length list + 1 - from
+μ-loop c list from₀ from = length list + 1 - from
 
-pub responses-spec : {M : Type 1} → statement M
-responses-spec =
+pub each-spec : {M : Type 1} → statement M
+each-spec =
     tie.close
     (tie.spec
     Inv-loop
