@@ -1,14 +1,14 @@
 -- What four octets of text stand for, by cases. Assumes nothing.
-use mathlib.Core.Path.{_≡_, refl, sym, _∙_, ap, subst}
-use mathlib.Core.Bool.{Bool, true, false, cond, _&&_, false≢true}
-use Prim.Native.Nat.{ℕ, _+_, _*_, _/_, _%_, _<_}
+use mathlib.Core.Path.{_≡_, refl}
+use mathlib.Core.Bool.{Bool, true, false, cond}
+use Prim.Native.Nat.{ℕ, _%_, _<_}
 use native.Mathlib.Omega.{arith}
 use borrow.Author.Tests.{lt-ltb, ltb-true, eqb-true, eq-eqb}
 use lib.Dec.{ltb, eqb}
 use Rattle.octets.proofs.Cases.{both}
 use Rattle.base64.specs.Base64.{value, alphabet, pad, joined, letters, letters3, letters2, three, two, one, groupOf}
 use Rattle.base64.specs.declared.Group.{Group}
-use Rattle.base64.specs.declared.Group.the-variants.{One, Two, Three, Bad}
+use Rattle.base64.specs.declared.Group.the-variants.{Bad}
 
 -- by the numbers p q r s that code has found: a way out of group_of each
 module _ (a b c d : ℕ) {p q r s : ℕ} (hp : p ≡ value a) (hq : q ≡ value b) (hr : r ≡ value c) (hs : s ≡ value d) where

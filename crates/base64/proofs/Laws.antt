@@ -1,6 +1,6 @@
 -- The laws of base64's definitions. Assumes nothing.
 use mathlib.Core.Path.{_≡_, refl, sym, _∙_, ap}
-use mathlib.Core.Bool.{Bool, true, false, cond, _&&_, _||_}
+use mathlib.Core.Bool.{Bool, true, false, cond, _&&_}
 use mathlib.Core.List.{List, [], _∷_, _++_}
 use mathlib.Core.Logic.{_↔_}
 use Prim.Native.Nat.{ℕ, zero, suc, _+_, _*_, _-_, _/_, _%_, _<_, _≤_}
@@ -9,9 +9,9 @@ use borrow.Author.Tests.{ne-eqb}
 use lib.Dec.{eqb}
 use lib.ListN.{length, take, drop}
 use lib.Seq.{drop-nil}
-use Rattle.octets.specs.Lists.{isEmpty, Octets, holds}
+use Rattle.octets.specs.Lists.{Octets, holds}
 use Rattle.octets.specs.declared.Measured.{Measured}
-use Rattle.base64.specs.Base64.{alphabet, value, pad, encode, groupOf, octetsOf, follows, valid, octets, closing, measured}
+use Rattle.base64.specs.Base64.{alphabet, value, pad, encode, groupOf, octetsOf, valid, octets, closing, measured}
 use Rattle.base64.specs.declared.Group.{Group}
 use Rattle.base64.proofs.Groups.{Cases, is-one, is-two, is-three, is-bad, cases, not-pad, three-of, two-of, one-of}
 use Rattle.base64.proofs.Grammar.{Text, none, two-letters, three-letters, four-letters, text}

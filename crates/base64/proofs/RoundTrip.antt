@@ -1,14 +1,13 @@
 -- Decoding and encoding undo each other. Assumes nothing.
 use mathlib.Core.Path.{_≡_, refl, sym, _∙_, ap}
-use mathlib.Core.Bool.{true, false≢true}
-use mathlib.Core.List.{List, [], _∷_, _++_}
+use mathlib.Core.Bool.{true}
+use mathlib.Core.List.{List, [], _∷_}
 use Prim.Native.Nat.{ℕ, _+_, _*_, _/_, _%_, _<_}
 use native.Mathlib.Omega.{arith}
-use Rattle.octets.specs.Lists.{isEmpty, Octets}
+use Rattle.octets.specs.Lists.{Octets}
 use Rattle.octets.proofs.Alphabet.{getD-index, index-getD}
-use Rattle.base64.specs.Base64.{alphabet, letter, value, pad, bits, encode, joined, octet1, octet2, octet3, three, two, one, groupOf, octetsOf, follows, valid, octets}
-use Rattle.base64.specs.declared.Group.{Group}
-use Rattle.base64.specs.declared.Group.the-variants.{One, Two, Three, Bad}
+use Rattle.base64.specs.Base64.{alphabet, letter, value, pad, bits, encode, joined, octet1, octet2, octet3, three, two, one, groupOf, valid, octets}
+use Rattle.base64.specs.declared.Group.the-variants.{One, Two, Three}
 use Rattle.base64.proofs.Groups.{three-of, two-of, one-of}
 use Rattle.base64.proofs.Grammar.{Text, none, two-letters, three-letters, four-letters, text}
 

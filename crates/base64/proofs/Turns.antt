@@ -1,6 +1,6 @@
 -- A turn of the loops over a text: what the rest of the text adds, by its first four octets. Assumes nothing.
 use mathlib.Core.Path.{_≡_, refl, sym, _∙_, ap}
-use mathlib.Core.Bool.{Bool, true, false, cond, false≢true}
+use mathlib.Core.Bool.{true, false, cond, false≢true}
 use mathlib.Core.List.{List, [], _∷_, _++_}
 use Prim.Native.Nat.{ℕ, _+_, _-_, _<_, _≤_}
 use native.Mathlib.Nat.{add-zero, not-suc-le-zero}
@@ -11,7 +11,7 @@ use Rattle.octets.specs.declared.Measured.{Measured}
 use Rattle.octets.proofs.Answers.{resumed, resumed-zero}
 use Rattle.octets.proofs.Lists.{drop-four, sets-append}
 use Rattle.octets.specs.Lists.{isEmpty}
-use Rattle.base64.specs.Base64.{value, joined, letters, three, octetsOf, follows, valid, octets, measured}
+use Rattle.base64.specs.Base64.{value, letters, octetsOf, follows, valid, octets, measured}
 use Rattle.base64.specs.Private.{groupAt, lettersAt, last}
 use Rattle.base64.specs.declared.Group.{Group}
 use Rattle.base64.specs.declared.Group.the-variants.{One, Two, Three, Bad}

@@ -1,5 +1,5 @@
 -- The AUTH line (document 01, "A session's steps"; RFC 4954 section 4, RFC 5034 section 4).
-use mathlib.Core.Bool.{Bool, cond}
+use mathlib.Core.Bool.{cond}
 use mathlib.Core.List.{List, []}
 use Prim.Native.Nat.{ℕ, _+_}
 use lib.ListN.{length, take, drop}

@@ -5,7 +5,7 @@ use Prim.Native.Nat.{ℕ, suc, _+_, _-_}
 use lib.Dec.{leb, eqb}
 use lib.ListN.{length, getD, take, drop}
 use Rattle.octets.specs.Ascii.{ascii, capitals}
-use Rattle.octets.specs.Lists.{isEmpty, holds, every, same, before, after}
+use Rattle.octets.specs.Lists.{isEmpty, holds, every, same, after}
 use Rattle.xtext.specs.Xtext
 use Rattle.mail.specs.Parameter.{equals, named, good, null, AUTH, SUBMITTER}
 use Rattle.mail.specs.declared.Mail.{Mail}

@@ -1,13 +1,13 @@
 -- What stands before an octet and after it, and whether two lists are the same: at an index, as a loop needs it, and as a whole. Assumes nothing.
 use mathlib.Core.Path.{_≡_, refl, sym, _∙_, ap}
-use mathlib.Core.Bool.{Bool, true, false, cond, _&&_, _||_, false≢true}
-use mathlib.Core.List.{List, [], _∷_, _++_, map}
+use mathlib.Core.Bool.{Bool, true, false, cond, _||_, false≢true}
+use mathlib.Core.List.{List, [], _∷_, _++_}
 use Prim.Native.Nat.{ℕ, suc, _+_, _-_, _<_, _≤_}
 use native.Mathlib.Numerals.{add-one}
 use native.Mathlib.Omega.{arith}
 use borrow.Author.Tests.{eq-eqb, ne-eqb, eqb-true, le-leb, lt-leb, lt-ltb}
 use lib.Dec.{eqb, ltb, leb·suc-suc}
-use lib.ListN.{length, getD, drop, take, drop-of-length-le, length-drop, length-map, List·getD-map}
+use lib.ListN.{length, getD, drop, take, drop-of-length-le, length-drop, List·getD-map}
 use lib.Seq.{drop-cons}
 use Rattle.octets.specs.Lists.{holds, same, before, after}
 use Rattle.octets.specs.Ascii.{capital, capitals}

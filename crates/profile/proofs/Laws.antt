@@ -1,5 +1,5 @@
 -- The laws of the limits, the replies and the numbers. Assumes nothing.
-use mathlib.Core.Path.{_≡_, refl, sym, _∙_, ap}
+use mathlib.Core.Path.{_≡_, refl}
 use mathlib.Core.Bool.{Bool, true, false, not}
 use mathlib.Core.List.{List, [], _∷_, _++_}
 use Prim.Native.Nat.{ℕ, zero, suc, _<_, _≤_}
@@ -9,12 +9,10 @@ use lib.Dec.{leb}
 use lib.ListN.{length, drop}
 use Rattle.octets.specs.Lists.{every, same, after}
 use Rattle.octets.proofs.Cases as Cases
-use Rattle.profile.specs.Limits.{commandLimit, mailLimit, responseLimit}
 use Rattle.profile.specs.Texts.{events, reply, words, challengePrefix, isChallenge}
 use Rattle.profile.specs.Numbers.{profileNumber, profileOf, verdictNumber, verdictOf, refusalNumber}
 use Rattle.profile.specs.declared.Profile.{Profile}
 use Rattle.profile.specs.declared.Profile.the-variants.{Smtp, Pop3}
-use Rattle.profile.specs.declared.ListedProfile.{ListedProfile}
 use Rattle.profile.specs.declared.ListedProfile.the-variants as ListedProfiles
 use Rattle.profile.specs.declared.Reply.{Reply}
 use Rattle.profile.specs.declared.Reply.the-variants as Replies

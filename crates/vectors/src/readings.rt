@@ -1,5 +1,4 @@
 // One row of output for a line, read by the rules of a profile.
-ghost use Prim.Native.Nat.{_≤_};
 use crate::show;
 use lines::auth::Auth;
 use lines::command::Command;
