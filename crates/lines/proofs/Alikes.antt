@@ -7,7 +7,7 @@ use native.Mathlib.Omega.{arith}
 use borrow.Author.Tests.{ne-eqb, eqb-false}
 use lib.Dec.{ltb, eqb}
 use lib.ListN.{length, take, drop, length-append, length-map}
-use lib.Seq.{take-at, drop-at}
+use lib.Seq.{take-at, drop-at, drop-drop}
 use Rattle.octets.specs.Ascii.{ascii, capital, capitals}
 use Rattle.octets.specs.Lists.{isEmpty, holds, same}
 use Rattle.octets.specs.declared.Measured.{Measured}
@@ -144,6 +144,28 @@ same-name-text a m r s k h e =
     let n = name-line a m r e ∙ sym (name-line a m s e) in
     rw (auth-line a e (m ++ (space ∷ r)), arguments-line m r h) (name-initial (mechanism m) (5 + length m) r (authLine a m r) (authLine a m s) n)
     ∙ ap (λ (x : Auth). nameText x (authLine a m s)) (same-auth a m r s k h e)
+
+-- and the text that it points to is the response
+text-line : (a m r : List ℕ) → capitals a ≡ ascii "AUTH" → drop (5 + length m + 1) (authLine a m r) ≡ r
+text-line a m r e =
+    let z : 5 + (length m + 1) ≡ 5 + length m + 1 = omega arith in
+    ap (λ (j : ℕ). drop j (authLine a m r)) (sym z)
+    ∙ sym (drop-drop (length m + 1) 5 (authLine a m r))
+    ∙ ap (drop (length m + 1)) (after-five a e (m ++ (space ∷ r)))
+    ∙ (rw (← (append-assoc m (space ∷ []) r)) (drop-at (m ++ (space ∷ [])) r (length m + 1) (simp length-append (omega arith))))
+
+after-space : (b c : Bool) (k : Measured) (i to from n : ℕ) → cond b (cond c Malformed (given i k)) Malformed ≡ Initial to from n → from ≡ i + 1
+after-space true false (Measured.Length j) i to from n e = cc
+after-space true false Measured.Malformed i to from n e = let z : _≡_ {A = ℕ} 0 1 = cc in absurd (omega arith)
+after-space true true k i to from n e = let z : _≡_ {A = ℕ} 0 1 = cc in absurd (omega arith)
+after-space false c k i to from n e = let z : _≡_ {A = ℕ} 0 1 = cc in absurd (omega arith)
+
+pub initial-text : (a m r : List ℕ) (to from n : ℕ) → capitals a ≡ ascii "AUTH" → holds space m ≡ false → valid r ≡ true
+    → auth (authLine a m r) ≡ Initial to from n → drop from (authLine a m r) ≡ r
+initial-text a m r to from n e h v f =
+    let g = sym (arguments-line m r h) ∙ sym (auth-line a e (m ++ (space ∷ r))) ∙ f in
+    let z = after-space (mechanism m) (isEmpty r) (measured r) (5 + length m) to from n (rw (text-initial (5 + length m) r v) at g) in
+    rw z (text-line a m r e)
 
 -- a word without a space in capitals has none
 spaceless : (l : List ℕ) → holds space (capitals l) ≡ false → holds space l ≡ false
