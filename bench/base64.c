@@ -1,5 +1,6 @@
 /* The proved base64 beside plain C and the base64 of other libraries. run.sh finds which of these are installed, and
    compiles them in with -DHAVE_OPENSSL, -DHAVE_GSASL, -DHAVE_GLIB. */
+#include "forms.h"
 #include "plain.h"
 #include <string.h>
 #ifdef HAVE_OPENSSL
@@ -169,5 +170,5 @@ static const struct form base64 = {
 };
 
 int main(int argc, char **argv) {
-    return harness_main(&base64, argc, argv);
+    return form_main(&base64, argc, argv);
 }

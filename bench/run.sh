@@ -1,16 +1,16 @@
 #!/bin/sh
-# Measures the proved base64 and xtext beside plain C, and beside the base64 of the libraries that are installed.
+# Measures the proved base64, xtext and readings of lines beside plain C, and beside the base64 of the libraries that are installed.
 #   bench/run.sh          prints the tables: instructions, then times, as ratios to plain C
 #   bench/run.sh check    only compares the answers and buffers with those of plain C
 #   bench/run.sh limit    compares, and counts instructions: fails where the proved one takes more than
-#                         LIMIT (1.15) of plain C's at 64 letters or more
+#                         LIMIT (1.15), of lines LIMIT_LINES (3), of plain C's at 64 letters or octets or more
 # ROUNDS (60) is the number of rounds that a time is the median of. Needs rt and gcc; what else is missing is said and left out.
 set -eu
 
 here=$(cd "$(dirname "$0")" && pwd)
 root=$(dirname "$here")
 out=$root/target/bench
-forms='base64 xtext'
+forms='base64 xtext lines'
 mode=${1:-tables}
 case $mode in
 tables | check | limit) ;;
@@ -32,21 +32,53 @@ has() {
     fi
 }
 
-build() {
-    mkdir -p "$out"
-    if ! (cd "$root" && rt staticlib benchface) >"$out/staticlib.log" 2>&1; then
-        tail -n 20 "$out/staticlib.log" >&2
-        echo "run.sh: rt staticlib benchface failed; $out/staticlib.log has it whole" >&2
+# the crate that has the C face of a form
+face_of() {
+    case $1 in
+    lines) echo lineface ;;
+    *) echo benchface ;;
+    esac
+}
+
+prove() {
+    if ! (cd "$root" && rt staticlib "$1") >"$out/$1.log" 2>&1; then
+        tail -n 20 "$out/$1.log" >&2
+        echo "run.sh: rt staticlib $1 failed; $out/$1.log has it whole" >&2
         exit 2
     fi
+}
+
+build() {
+    mkdir -p "$out"
+    prove benchface
+    prove lineface
     has VALGRIND valgrind/callgrind.h '' ''
     has OPENSSL openssl/evp.h '' -lcrypto
     has GSASL gsasl.h '' -lgsasl
     has GLIB glib.h "$(pkg-config --cflags glib-2.0 2>/dev/null || :)" "$(pkg-config --libs glib-2.0 2>/dev/null || :)"
     for form in $forms; do
-        gcc -std=c11 -O2 -Wall -Wextra $flags -o "$out/$form" "$here/$form.c" "$here/plain_$form.c" "$here/harness.c" \
-            "$root/target/staticlib/libbenchface.a" $libs
+        case $form in
+        lines) with=$here/plain_base64.c ;;
+        *) with=$here/forms.c ;;
+        esac
+        gcc -std=c11 -O2 -Wall -Wextra $flags -o "$out/$form" "$here/$form.c" "$here/plain_$form.c" "$with" "$here/harness.c" \
+            "$root/target/staticlib/lib$(face_of "$form").a" $libs
     done
+}
+
+# what a length counts, and how much more than plain C the proved one may take
+unit_of() {
+    case $1 in
+    lines) echo octets ;;
+    *) echo letters ;;
+    esac
+}
+
+limit_of() {
+    case $1 in
+    lines) echo "${LIMIT_LINES:-3}" ;;
+    *) echo "${LIMIT:-1.15}" ;;
+    esac
 }
 
 can_count() {
@@ -56,7 +88,7 @@ can_count() {
     esac
 }
 
-# lines as of FORM time: function, kind, letters, row, ratio to plain C, instructions
+# lines as of FORM time: function, kind, length, row, ratio to plain C, instructions
 count() {
     rm -rf "$out/dumps"
     mkdir "$out/dumps"
@@ -84,14 +116,14 @@ count() {
 
 # a table for each function: a row for each kind and contender, a column for each length
 print_tables() {
-    awk -F'\t' -v form="$1" -v unit="$2" '
-        function cells(key, field,    j, s) {
+    awk -F'\t' -v form="$1" -v unit="$2" -v length_unit="$(unit_of "$1")" '
+        function cells(name, key, field,    j, s) {
             s = ""
-            for (j = 1; j <= lengths; j++) s = s sprintf(" %9s |", field[key, length_at[j]])
+            for (j = 1; j <= lengths[name]; j++) s = s sprintf(" %9s |", field[key, length_at[name, j]])
             return s
         }
-        !($3 in known_length) { known_length[$3]; length_at[++lengths] = $3 }
         !($1 in known_function) { known_function[$1]; function_at[++functions] = $1 }
+        !(($1, $3) in known_length) { known_length[$1, $3]; length_at[$1, ++lengths[$1]] = $3 }
         {
             key = $1 FS $2 FS $4
             if (!(key in known_key)) { known_key[key]; key_at[++keys] = key }
@@ -100,16 +132,17 @@ print_tables() {
         }
         END {
             for (k = 1; k <= functions; k++) {
-                printf "\n| %-15s | %-21s |", form " " function_at[k], "letters:"
-                for (j = 1; j <= lengths; j++) printf " %9s |", length_at[j]
+                name = function_at[k]
+                printf "\n| %-15s | %-21s |", form " " name, length_unit ":"
+                for (j = 1; j <= lengths[name]; j++) printf " %9s |", length_at[name, j]
                 printf "\n|%s|%s|", "---", "---"
-                for (j = 1; j <= lengths; j++) printf "---:|"
+                for (j = 1; j <= lengths[name]; j++) printf "---:|"
                 printf "\n"
                 for (i = 1; i <= keys; i++) {
                     split(key_at[i], f, FS)
-                    if (f[1] != function_at[k]) continue
-                    if (f[3] == "plain C") printf "| %-15s | %-21s |%s\n", f[2], "plain C, " unit, cells(key_at[i], amount)
-                    else printf "| %-15s | %-21s |%s\n", f[2], f[3], cells(key_at[i], ratio)
+                    if (f[1] != name) continue
+                    if (f[3] == "plain C") printf "| %-15s | %-21s |%s\n", f[2], "plain C, " unit, cells(name, key_at[i], amount)
+                    else printf "| %-15s | %-21s |%s\n", f[2], f[3], cells(name, key_at[i], ratio)
                 }
             }
         }'
@@ -117,13 +150,13 @@ print_tables() {
 
 # fails where the proved one takes too many instructions
 judge() {
-    awk -F'\t' -v form="$1" -v limit="${LIMIT:-1.15}" '
+    awk -F'\t' -v form="$1" -v limit="$(limit_of "$1")" -v length_unit="$(unit_of "$1")" '
         $4 == "proved" && $3 >= 64 {
             judged++
             if ($5 > most) most = $5
             if ($5 > limit) {
                 bad++
-                printf "TOO SLOW %s %s, %s, %s letters: %.3f of plain C\n", form, $1, $2, $3, $5
+                printf "TOO SLOW %s %s, %s, %s %s: %.3f of plain C\n", form, $1, $2, $3, length_unit, $5
             }
         }
         END {

@@ -1,4 +1,5 @@
 /* The proved xtext beside plain C. No library is known that has xtext alone. */
+#include "forms.h"
 #include "plain.h"
 
 uint64_t bench_xtext_measure(const uint8_t *text, size_t size);
@@ -96,5 +97,5 @@ static const struct form xtext = {
 };
 
 int main(int argc, char **argv) {
-    return harness_main(&xtext, argc, argv);
+    return form_main(&xtext, argc, argv);
 }

@@ -1,0 +1,2 @@
+-- The definitions that the contracts of lineface cite.
+pub mod Readings
