@@ -1,25 +1,23 @@
 -- The laws of the MAIL line's reading. Assumes nothing.
 use mathlib.Core.Path.{_≡_, refl, sym, _∙_, ap}
-use mathlib.Core.Bool.{Bool, true, false, cond, not, _&&_, _||_, false≢true}
+use mathlib.Core.Bool.{Bool, true, false, cond, _&&_, _||_, false≢true}
 use mathlib.Core.List.{List, [], _∷_}
 use Prim.Native.Nat.{ℕ, suc, _+_, _-_, _≤_}
 use native.Mathlib.Nat.{add-zero}
 use native.Mathlib.Omega.{arith}
 use lib.Dec.{leb, eqb}
-use lib.ListN.{length, take, drop, length-take, length-drop, length-map}
+use lib.ListN.{length, take, drop, length-take, length-drop}
 use lib.Seq.{slice, drop-drop}
-use Rattle.octets.specs.Ascii.{capital, capitals}
 use Rattle.octets.specs.Lists.{every, before, after}
 use Rattle.octets.proofs.Cases.{both, split}
 use Rattle.octets.proofs.Lists.{cut}
-use Rattle.octets.proofs.Words.{same-true, after-drop}
 use Rattle.xtext.specs.Xtext
 use Rattle.xtext.proofs.Laws.{length-octets}
 use Rattle.mail.specs.Address.{address}
-use Rattle.mail.specs.Parameter.{equals, parameter, named, good, null, AUTH, SUBMITTER, authValue, submitterValue}
+use Rattle.mail.specs.Parameter.{equals, named, good, null, AUTH, SUBMITTER, authValue}
 use Rattle.mail.specs.Mail.{space, greater, opens, pathEnds, rest, onto, words, spaced, parameters, count, allGood, said, identity, wellFormed, mail, addressText}
 use Rattle.mail.specs.declared.Mail.the-variants.{Malformed, Null, Address}
-use Rattle.mail.proofs.Whole.{rest-drop}
+use Rattle.mail.proofs.Whole.{value-drop, value-length, good-auth, rest-drop}
 
 -- words stand in a line one after the other, the first at index i
 abbrev Placed : List ℕ → ℕ → List (List ℕ) → Type 0
@@ -47,27 +45,17 @@ module _ (l : List ℕ) where
 
 -- the value of an AUTH parameter that stands at index i
 module _ (l w : List ℕ) (i : ℕ) (p : take (length w) (drop i l) ≡ w) (a : named AUTH w ≡ true) where
-  key-length : length (before equals w) ≡ length AUTH
-  unfolding named
-  key-length = sym (length-map (before equals w) capital) ∙ ap length (same-true (capitals (before equals w)) AUTH a)
-
-  value-is : drop (suc (length AUTH)) (take (length w) (drop i l)) ≡ after equals w
-  value-is = rw p (ap (λ (n : ℕ). drop (suc n) w) (sym key-length) ∙ sym (after-drop equals w))
-
-  value-length : length (after equals w) ≡ length w - suc (length AUTH)
-  value-length = ap length (sym value-is) ∙ length-drop (suc (length AUTH)) (take (length w) (drop i l)) ∙ ap (λ (t : List ℕ). length t - suc (length AUTH)) p
-
   value-placed : slice (i + length AUTH + 1) (i + length AUTH + 1 + length (after equals w)) l ≡ after equals w
   value-placed =
       let from = i + length AUTH + 1 in
-      let y : from + length (after equals w) - from ≡ length w - suc (length AUTH) = omega (arith, value-length) in
+      let y : from + length (after equals w) - from ≡ length w - suc (length AUTH) = omega (arith, value-length w a) in
       let z : i + suc (length AUTH) ≡ from = omega arith in
       sym (cut from (from + length (after equals w)) l)
       ∙ ap (λ (n : ℕ). take n (drop from l)) y
       ∙ ap (λ (n : ℕ). take (length w - suc (length AUTH)) (drop n l)) (sym z)
       ∙ ap (take (length w - suc (length AUTH))) (sym (drop-drop (suc (length AUTH)) i l))
       ∙ cut (suc (length AUTH)) (length w) (drop i l)
-      ∙ value-is
+      ∙ rw p (sym (value-drop w a))
 
 -- what a text has that is xtext of an address of n octets
 abbrev pub Reads : List ℕ → ℕ → Type 0
@@ -83,12 +71,6 @@ said-address v i from to n e f = go (Xtext.valid v) (null v) (address (Xtext.oct
     go true true c e f = let z : _≡_ {A = ℕ} 0 1 = cc in absurd (omega arith)
     go true false true e f = ((cc), (cc), (refl, (cc), refl))
     go true false false e f = absurd (false≢true e)
-
-good-auth : (w : List ℕ) → good w ≡ true → named AUTH w ≡ true → authValue (after equals w) ≡ true
-unfolding good
-good-auth w e a =
-    let h = both (parameter w && (not (named AUTH w) || authValue (after equals w))) (not (named SUBMITTER w) || submitterValue (after equals w)) e in
-    rw a at (both (parameter w) (not (named AUTH w) || authValue (after equals w)) (h .0) .1)
 
 identity-read : (l : List ℕ) (ws : List (List ℕ)) (i from to n : ℕ) → Placed l i ws → every good ws ≡ true → identity i ws ≡ Address from to n → Reads (slice from to l) n
 unfolding identity every

@@ -1,21 +1,19 @@
 -- The parameters of a line, one after the other, each after a space. Assumes nothing.
 use mathlib.Core.Path.{_≡_, refl, sym, _∙_, ap}
-use mathlib.Core.Bool.{Bool, true, false, cond}
+use mathlib.Core.Bool.{Bool, true, false, cond, false≢true}
 use mathlib.Core.List.{List, [], _∷_}
 use Prim.Native.Nat.{ℕ, _+_, _<_, _≤_}
 use native.Mathlib.Numerals.{add-one}
 use native.Mathlib.Omega.{arith}
-use borrow.Author.Tests.{eq-eqb, ne-eqb}
+use borrow.Author.Tests.{eq-eqb, ne-eqb, not-true, not-false}
 use lib.Dec.{eqb}
 use lib.ListN.{length, getD, drop, drop-of-length-le}
 use lib.Seq.{drop-cons, drop-drop}
 use Rattle.octets.specs.Lists.{before, after}
-use Rattle.mail.specs.Parameter.{equals, parameter, named, AUTH, SUBMITTER, authValue, submitterValue}
+use Rattle.mail.specs.Parameter.{equals, named, good, null, AUTH, SUBMITTER}
 use Rattle.mail.specs.Mail.{space, spaced, onto, words, parameters}
-use Rattle.mail.specs.Private.{read, isAbsent, noted, taken, onward, readWords, readRest}
+use Rattle.mail.specs.Private.{saying, found, read, isAbsent, refused, onward, readWords, readRest}
 use Rattle.mail.specs.declared.Mail.{Mail}
-use Rattle.mail.specs.declared.Seen.{Seen}
-use Rattle.mail.specs.declared.Noted.{Noted}
 use Rattle.mail.specs.declared.parameter.Parameter.{Parameter}
 
 -- the first word, and what stands after it
@@ -45,78 +43,96 @@ spaced-past (x ∷ m) = go (eqb x space) refl (spaced-past m)
     go false e ih = ih
 
 -- the line's end, and what is no space
-module _ (l : List ℕ) (i : ℕ) (s : Seen) where
-  pub rest-end : length l ≤ i → s .auth ≡ readRest s i (drop i l)
+module _ (l : List ℕ) (i : ℕ) (a : Mail) (s : Bool) where
+  pub rest-end : length l ≤ i → a ≡ readRest a s i (drop i l)
   unfolding readRest readWords
   rest-end h = rw (drop-of-length-le l {i = i} h)
 
-  pub no-space : i < length l → (getD l i 0 ≡ space → ⊥) → Mail.Malformed ≡ readRest s i (drop i l)
+  pub no-space : i < length l → (getD l i 0 ≡ space → ⊥) → Mail.Malformed ≡ readRest a s i (drop i l)
   unfolding readRest
   no-space h e = rw (drop-cons l i 0 h, ne-eqb (getD l i 0) space e)
 
--- a parameter that is noted ends where it ends
-abbrev Ends : ℕ → Noted → Type 0
-Ends k Noted.Malformed = Unit {0}
-Ends k (Noted.Next t e) = k ≡ e
+-- a parameter that is read ends where it ends
+abbrev Ends : ℕ → Parameter → Type 0
+Ends k Parameter.Malformed = Unit {0}
+Ends k (Parameter.Other e) = k ≡ e
+Ends k (Parameter.Null e) = k ≡ e
+Ends k (Parameter.Address from to n) = k ≡ to
+Ends k (Parameter.Submitter e) = k ≡ e
 
-either : (k : ℕ) (b : Bool) (x y : Noted) → Ends k x → Ends k y → Ends k (cond b x y)
+either : (k : ℕ) (b : Bool) (x y : Parameter) → Ends k x → Ends k y → Ends k (cond b x y)
 either k true x y p q = p
 either k false x y p q = q
 
-taken-ends : (s : Seen) (i : ℕ) (w : List ℕ) → Ends (i + length w) (taken s i w)
-unfolding taken noted
-taken-ends s i w =
+read-ends : (i : ℕ) (w : List ℕ) → Ends (i + length w) (read i w)
+unfolding read found saying
+read-ends i w =
     let k = i + length w in
-    let v = after equals w in
-    either k (parameter w) _ _
+    either k (good w) _ _
     (either k (named AUTH w) _ _
-    (either k (isAbsent (s .auth)) _ _ (either k (authValue v) _ _ refl tt) tt)
-    (either k (named SUBMITTER w) _ _ (either k (s .submitter) _ _ tt (either k (submitterValue v) _ _ refl tt)) refl))
+    (either k (null (after equals w)) _ _ refl refl)
+    (either k (named SUBMITTER w) _ _ refl refl))
     tt
 
--- a turn: the parameter after a space, as it was noted
-module _ (l : List ℕ) (i : ℕ) (h : i < length l) (g : getD l i 0 ≡ space) (s : Seen) (n : Noted) (d : n ≡ taken s (i + 1) (before space (drop (i + 1) l))) where
-  starts : readRest s i (drop i l) ≡ readWords s (i + 1) (words (drop (i + 1) l))
+-- a parameter that may not come
+refused-is : (a : Mail) (s : Bool) (p : Parameter) (k : Mail → Bool → ℕ → Mail) → refused a s p ≡ true → onward a s p k ≡ Mail.Malformed
+refused-is a s Parameter.Malformed k e = refl
+refused-is a s (Parameter.Other n) k e = absurd (false≢true e)
+refused-is a s (Parameter.Null n) k e = rw (not-true (isAbsent a) e)
+refused-is a s (Parameter.Address from to n) k e = rw (not-true (isAbsent a) e)
+refused-is a s (Parameter.Submitter n) k e = rw e
+
+-- a turn: the parameter after a space, as it was read
+module _ (l : List ℕ) (i : ℕ) (h : i < length l) (g : getD l i 0 ≡ space) (a : Mail) (s : Bool) (p : Parameter) (d : p ≡ read (i + 1) (before space (drop (i + 1) l))) where
+  starts : readRest a s i (drop i l) ≡ readWords a s (i + 1) (words (drop (i + 1) l))
   unfolding readRest
   starts = rw (add-one, drop-cons l i 0 h, eq-eqb (getD l i 0) space g)
 
-  turn : readRest s i (drop i l) ≡ onward n (λ t e. readWords t (e + 1) (parameters (past (drop (i + 1) l))))
+  abbrev onwards : Mail → Bool → ℕ → Mail
+  onwards b t e = readWords b t (e + 1) (parameters (past (drop (i + 1) l)))
+
+  turn : readRest a s i (drop i l) ≡ onward a s p onwards
   unfolding readWords
-  turn = starts ∙ ap (readWords s (i + 1)) (words-are (drop (i + 1) l)) ∙ rw d
+  turn = starts ∙ ap (readWords a s (i + 1)) (words-are (drop (i + 1) l)) ∙ rw d
 
-  pub unnoted : n ≡ Noted.Malformed → Mail.Malformed ≡ readRest s i (drop i l)
-  unnoted c = sym (turn ∙ rw c)
+  pub refuses : refused a s p ≡ true → Mail.Malformed ≡ readRest a s i (drop i l)
+  refuses c = sym (turn ∙ refused-is a s p onwards c)
 
-  module _ (t : Seen) (e : ℕ) (c : n ≡ Noted.Next t e) where
-    pub ends-at : i + 1 + length (before space (drop (i + 1) l)) ≡ e
-    ends-at = rw (sym d ∙ c) at (taken-ends s (i + 1) (before space (drop (i + 1) l)))
+  pub malformed : p ≡ Parameter.Malformed → Mail.Malformed ≡ readRest a s i (drop i l)
+  malformed c = sym (turn ∙ rw c)
 
-    past-is : past (drop (i + 1) l) ≡ drop e l
-    past-is = drop-drop (length (before space (drop (i + 1) l))) (i + 1) l ∙ ap (λ (j : ℕ). drop j l) ends-at
+  -- where the reading goes on
+  ends-at : (x : Parameter) → p ≡ x → Ends (i + 1 + length (before space (drop (i + 1) l))) x
+  ends-at x c = rw (sym d ∙ c) at (read-ends (i + 1) (before space (drop (i + 1) l)))
 
-    pub noted-next : readRest t e (drop e l) ≡ readRest s i (drop i l)
+  module _ (e : ℕ) (z : i + 1 + length (before space (drop (i + 1) l)) ≡ e) where
+    goes-on : (b : Mail) (t : Bool) → readRest b t e (drop e l) ≡ onwards b t e
     unfolding readRest
-    noted-next =
-        let z : spaced (drop e l) ≡ true = rw past-is at (spaced-past (drop (i + 1) l)) in
-        rw z (sym (turn ∙ rw (c, past-is)))
+    goes-on b t =
+        let y : past (drop (i + 1) l) ≡ drop e l = drop-drop (length (before space (drop (i + 1) l))) (i + 1) l ∙ ap (λ (j : ℕ). drop j l) z in
+        let x : spaced (drop e l) ≡ true = rw y at (spaced-past (drop (i + 1) l)) in
+        rw (y, x)
 
--- a parameter as it was read
-module _ (i : ℕ) (w : List ℕ) (p : Parameter) (r : p ≡ read i w) where
-  pub untaken : p ≡ Parameter.Malformed → (s : Seen) → Noted.Malformed ≡ taken s i w
-  unfolding taken
-  untaken f s = go (parameter w) r
-    where
-      go : (b : Bool) → p ≡ cond b (Parameter.Ends (i + length (before equals w)) (i + length w)) Parameter.Malformed → Noted.Malformed ≡ cond b (noted s i w) Noted.Malformed
-      go true d = let z : _≡_ {A = ℕ} 0 1 = cc in absurd (omega arith)
-      go false d = refl
+  module _ (r : refused a s p ≡ false) (e : ℕ) where
+    pub other-next : p ≡ Parameter.Other e → (i < e) × (readRest a s e (drop e l) ≡ readRest a s i (drop i l))
+    other-next c =
+        let z = ends-at (Parameter.Other e) c in
+        (omega arith, goes-on e z a s ∙ sym (turn ∙ rw c))
 
-  pub is-read : (k e : ℕ) → p ≡ Parameter.Ends k e → (parameter w ≡ true) × (i + length (before equals w) ≡ k) × (i + length w ≡ e)
-  is-read k e f = go (parameter w) r
-    where
-      go : (b : Bool) → p ≡ cond b (Parameter.Ends (i + length (before equals w)) (i + length w)) Parameter.Malformed → (b ≡ true) × (i + length (before equals w) ≡ k) × (i + length w ≡ e)
-      go true d = (refl, (cc), (cc))
-      go false d = let z : _≡_ {A = ℕ} 0 1 = cc in absurd (omega arith)
+    pub null-next : p ≡ Parameter.Null e → (i < e) × (readRest Mail.Null s e (drop e l) ≡ readRest a s i (drop i l))
+    null-next c =
+        let z = ends-at (Parameter.Null e) c in
+        let y : isAbsent a ≡ true = not-false (isAbsent a) (rw c at r) in
+        (omega arith, goes-on e z Mail.Null s ∙ sym (turn ∙ rw (c, y)))
 
-  pub is-taken : (k e : ℕ) → p ≡ Parameter.Ends k e → (s : Seen) (n : Noted) → n ≡ noted s i w → n ≡ taken s i w
-  unfolding taken
-  is-taken k e f s n g = rw (is-read k e f .0) g
+    pub address-next : (from n : ℕ) → p ≡ Parameter.Address from e n → (i < e) × (readRest (Mail.Address from e n) s e (drop e l) ≡ readRest a s i (drop i l))
+    address-next from n c =
+        let z = ends-at (Parameter.Address from e n) c in
+        let y : isAbsent a ≡ true = not-false (isAbsent a) (rw c at r) in
+        (omega arith, goes-on e z (Mail.Address from e n) s ∙ sym (turn ∙ rw (c, y)))
+
+    pub submitter-next : p ≡ Parameter.Submitter e → (i < e) × (readRest a true e (drop e l) ≡ readRest a s i (drop i l))
+    submitter-next c =
+        let z = ends-at (Parameter.Submitter e) c in
+        let y : s ≡ false = rw c at r in
+        (omega arith, goes-on e z a true ∙ sym (turn ∙ rw (c, y)))

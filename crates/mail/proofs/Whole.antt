@@ -1,23 +1,25 @@
 -- All parameters: reading them one after the other is what the definitions say of them together. Assumes nothing.
 use mathlib.Core.Path.{_≡_, refl, sym, _∙_, ap}
-use mathlib.Core.Bool.{Bool, true, false, cond, not, _&&_, and-false, false≢true}
+use mathlib.Core.Bool.{Bool, true, false, cond, not, _&&_, _||_, and-false, false≢true}
 use mathlib.Core.List.{List, [], _∷_}
 use Prim.Native.Nat.{ℕ, suc, _+_, _-_, _<_, _≤_}
 use native.Mathlib.Omega.{arith}
 use borrow.Author.Tests.{lt-leb, lt-ltb, le-ltb}
 use lib.Dec.{leb, leb·suc-suc}
-use lib.ListN.{length, drop, length-drop}
+use lib.ListN.{length, drop, length-drop, length-map}
 use lib.Seq.{slice, drop-drop}
-use Rattle.octets.specs.Ascii.{ascii, capitals}
+use Rattle.octets.specs.Ascii.{ascii, capital, capitals}
 use Rattle.octets.specs.Lists.{holds, every, same, before, after}
-use Rattle.octets.proofs.Cases.{split}
+use Rattle.octets.proofs.Cases.{both, split}
 use Rattle.octets.proofs.Words.{same-true, after-drop, holds-before}
 use Rattle.xtext.specs.Xtext
 use Rattle.mail.specs.Parameter.{equals, parameter, named, good, null, AUTH, SUBMITTER, authValue, submitterValue}
 use Rattle.mail.specs.Mail.{opens, pathEnds, greater, rest, spaced, parameters, count, allGood, said, identity, wellFormed, mail}
-use Rattle.mail.specs.Private.{isAbsent, noted, taken, readWords, unseen, readRest}
+use Rattle.mail.specs.Private.{saying, found, read, isAbsent, onward, readWords, readRest}
 use Rattle.mail.specs.declared.Mail.{Mail}
-use Rattle.mail.specs.declared.Seen.{Seen}
+use Rattle.mail.specs.declared.parameter.Parameter.{Parameter}
+use Rattle.mail.proofs.Values.{some-octet}
+use Rattle.mail.proofs.Parameters.{not-both}
 
 -- how many parameters of a keyword may come, and what AUTH said before
 abbrev room : Bool → ℕ
@@ -30,13 +32,8 @@ kept Mail.Absent m = m
 kept Mail.Null m = Mail.Null
 kept (Mail.Address from to n) m = Mail.Address from to n
 
-abbrev may : Seen → List (List ℕ) → Bool
-may s ws = every good ws && leb (count AUTH ws) (room (isAbsent (s .auth))) && leb (count SUBMITTER ws) (room (not (s .submitter)))
-
--- a keyword is not two words
-not-both : (w : List ℕ) → named AUTH w ≡ true → named SUBMITTER w ≡ false
-unfolding named same
-not-both w e = rw (same-true (capitals (before equals w)) AUTH e)
+abbrev may : Mail → Bool → List (List ℕ) → Bool
+may a s ws = every good ws && leb (count AUTH ws) (room (isAbsent a)) && leb (count SUBMITTER ws) (room (not s))
 
 -- one more does not fit where none may come
 none-fits : (n : ℕ) → leb (suc n) 0 ≡ false
@@ -44,6 +41,45 @@ none-fits n = lt-leb (suc n) 0 (omega arith)
 
 one-fits : (n : ℕ) → leb (suc n) 1 ≡ leb n 0
 one-fits n = leb·suc-suc n 0
+
+-- a good AUTH parameter has such a value
+pub good-auth : (w : List ℕ) → good w ≡ true → named AUTH w ≡ true → authValue (after equals w) ≡ true
+unfolding good
+good-auth w e a =
+    let h = both (parameter w && (not (named AUTH w) || authValue (after equals w))) (not (named SUBMITTER w) || submitterValue (after equals w)) e in
+    rw a at (both (parameter w) (not (named AUTH w) || authValue (after equals w)) (h .0) .1)
+
+-- the value of an AUTH parameter, which ends where the parameter does
+module _ (w : List ℕ) (a : named AUTH w ≡ true) where
+  key-length : length (before equals w) ≡ length AUTH
+  unfolding named
+  key-length = sym (length-map (before equals w) capital) ∙ ap length (same-true (capitals (before equals w)) AUTH a)
+
+  pub value-drop : after equals w ≡ drop (suc (length AUTH)) w
+  value-drop = after-drop equals w ∙ ap (λ (n : ℕ). drop (suc n) w) key-length
+
+  pub value-length : length (after equals w) ≡ length w - suc (length AUTH)
+  value-length = ap length value-drop ∙ length-drop (suc (length AUTH)) w
+
+  value-end : (i : ℕ) → authValue (after equals w) ≡ true → i + length AUTH + 1 + length (after equals w) ≡ i + length w
+  value-end i e = omega (arith, value-length, some-octet (after equals w) e)
+
+-- what AUTH says, after which it may not come again
+said-onward : (s : Bool) (from e : ℕ) (v : List ℕ) (k : Mail → Bool → ℕ → Mail) → from + length v ≡ e → onward Mail.Absent s (saying from e v) k ≡ k (said from v) s e
+unfolding saying said
+said-onward s from e v k z = go (null v)
+  where
+    go : (b : Bool) → onward Mail.Absent s (cond b (Parameter.Null e) (Parameter.Address from e (length (Xtext.octets v)))) k ≡ k (cond b Mail.Null (Mail.Address from (from + length v) (length (Xtext.octets v)))) s e
+    go true = refl
+    go false = rw z
+
+second-onward : (a : Mail) (s : Bool) (from e : ℕ) (v : List ℕ) (k : Mail → Bool → ℕ → Mail) → isAbsent a ≡ false → onward a s (saying from e v) k ≡ Mail.Malformed
+unfolding saying
+second-onward a s from e v k f = go (null v)
+  where
+    go : (b : Bool) → onward a s (cond b (Parameter.Null e) (Parameter.Address from e (length (Xtext.octets v)))) k ≡ Mail.Malformed
+    go true = rw f
+    go false = rw f
 
 said-kept : (from : ℕ) (v : List ℕ) (m : Mail) → (isAbsent (said from v) ≡ false) × (kept (said from v) m ≡ said from v)
 unfolding said
@@ -65,61 +101,56 @@ kept-absent Mail.Absent = refl
 kept-absent Mail.Null = refl
 kept-absent (Mail.Address from to n) = refl
 
--- what the definitions say of parameters, after what was seen
-abbrev outcome : Seen → ℕ → List (List ℕ) → Mail
-outcome s i ws = cond (may s ws) (kept (s .auth) (identity i ws)) Mail.Malformed
+-- what the definitions say of parameters, after what was met
+abbrev outcome : Mail → Bool → ℕ → List (List ℕ) → Mail
+outcome a s i ws = cond (may a s ws) (kept a (identity i ws)) Mail.Malformed
 
-module _ (s : Seen) (i : ℕ) (w : List ℕ) (ws : List (List ℕ)) (ih : (t : Seen) → readWords t (i + length w + 1) ws ≡ outcome t (i + length w + 1) ws) (p : parameter w ≡ true) where
-  auth-word : named AUTH w ≡ true → readWords s i (w ∷ ws) ≡ outcome s i (w ∷ ws)
-  unfolding readWords taken noted every good count identity
-  auth-word a =
+module _ (a : Mail) (s : Bool) (i : ℕ) (w : List ℕ) (ws : List (List ℕ)) (ih : (b : Mail) (t : Bool) → readWords b t (i + length w + 1) ws ≡ outcome b t (i + length w + 1) ws) (g : good w ≡ true) where
+  auth-word : named AUTH w ≡ true → readWords a s i (w ∷ ws) ≡ outcome a s i (w ∷ ws)
+  unfolding readWords read found every count identity
+  auth-word n =
       let v = after equals w in
-      let k = said-kept (i + length AUTH + 1) v (identity (i + length w + 1) ws) in
-      split (isAbsent (s .auth))
-      (λ c.
-      let m = absent-is (s .auth) c in
-      split (authValue v)
-      (λ d. rw (p, a, not-both w a, m, d, ih (record { auth = said (i + length AUTH + 1) v; submitter = s .submitter }), k .0, k .1, one-fits (count AUTH ws)))
-      (λ d. rw (p, a, not-both w a, m, d)))
-      (λ c. rw (p, a, not-both w a, c, none-fits (count AUTH ws), and-false))
+      let from = i + length AUTH + 1 in
+      let e = i + length w in
+      let k = said-kept from v (identity (i + length w + 1) ws) in
+      let onwards : Mail → Bool → ℕ → Mail = λ b t e. readWords b t (e + 1) ws in
+      split (isAbsent a)
+      (λ c. rw (absent-is a c, g, n, not-both w n, said-onward s from e v onwards (value-end w n i (good-auth w g n)), ih (said from v) s, k .0, k .1, one-fits (count AUTH ws)))
+      (λ c. rw (g, n, not-both w n, second-onward a s from e v onwards c, c, none-fits (count AUTH ws), and-false))
 
-  submitter-word : named AUTH w ≡ false → named SUBMITTER w ≡ true → readWords s i (w ∷ ws) ≡ outcome s i (w ∷ ws)
-  unfolding readWords taken noted every good count identity
-  submitter-word a b =
-      let v = after equals w in
-      split (s .submitter)
-      (λ c. rw (p, a, b, c, none-fits (count SUBMITTER ws), and-false))
-      (λ c.
-      split (submitterValue v)
-      (λ d. rw (p, a, b, c, d, ih (record { auth = s .auth; submitter = true }), one-fits (count SUBMITTER ws)))
-      (λ d. rw (p, a, b, c, d)))
+  submitter-word : named AUTH w ≡ false → named SUBMITTER w ≡ true → readWords a s i (w ∷ ws) ≡ outcome a s i (w ∷ ws)
+  unfolding readWords read found every count identity
+  submitter-word n m =
+      split s
+      (λ c. rw (g, n, m, c, none-fits (count SUBMITTER ws), and-false))
+      (λ c. rw (g, n, m, c, ih a true, one-fits (count SUBMITTER ws)))
 
-  other-word : named AUTH w ≡ false → named SUBMITTER w ≡ false → readWords s i (w ∷ ws) ≡ outcome s i (w ∷ ws)
-  unfolding readWords taken noted every good count identity
-  other-word a b = rw (p, a, b, ih s)
+  other-word : named AUTH w ≡ false → named SUBMITTER w ≡ false → readWords a s i (w ∷ ws) ≡ outcome a s i (w ∷ ws)
+  unfolding readWords read found every count identity
+  other-word n m = rw (g, n, m, ih a s)
 
-read-all : (ws : List (List ℕ)) (s : Seen) (i : ℕ) → readWords s i ws ≡ outcome s i ws
-unfolding readWords taken every good count identity
-read-all [] s i = go (isAbsent (s .auth)) (not (s .submitter))
+read-all : (ws : List (List ℕ)) (a : Mail) (s : Bool) (i : ℕ) → readWords a s i ws ≡ outcome a s i ws
+unfolding readWords read every count identity
+read-all [] a s i = go (isAbsent a) (not s)
   where
-    go : (a b : Bool) → s .auth ≡ cond (leb 0 (room a) && leb 0 (room b)) (kept (s .auth) Mail.Absent) Mail.Malformed
-    go true true = sym (kept-absent (s .auth))
-    go true false = sym (kept-absent (s .auth))
-    go false true = sym (kept-absent (s .auth))
-    go false false = sym (kept-absent (s .auth))
-read-all (w ∷ ws) s i =
-    let ih : (t : Seen) → readWords t (i + length w + 1) ws ≡ outcome t (i + length w + 1) ws = λ t. read-all ws t (i + length w + 1) in
-    split (parameter w)
-    (λ p. split (named AUTH w) (auth-word s i w ws ih p) (λ a. split (named SUBMITTER w) (submitter-word s i w ws ih p a) (other-word s i w ws ih p a)))
-    (λ p. rw p)
+    go : (b c : Bool) → a ≡ cond (leb 0 (room b) && leb 0 (room c)) (kept a Mail.Absent) Mail.Malformed
+    go true true = sym (kept-absent a)
+    go true false = sym (kept-absent a)
+    go false true = sym (kept-absent a)
+    go false false = sym (kept-absent a)
+read-all (w ∷ ws) a s i =
+    let ih : (b : Mail) (t : Bool) → readWords b t (i + length w + 1) ws ≡ outcome b t (i + length w + 1) ws = λ b t. read-all ws b t (i + length w + 1) in
+    split (good w)
+    (λ g. split (named AUTH w) (auth-word a s i w ws ih g) (λ n. split (named SUBMITTER w) (submitter-word a s i w ws ih g n) (other-word a s i w ws ih g n)))
+    (λ g. rw g)
 
--- from index i on, with nothing seen
-pub rest-is : (i : ℕ) (r : List ℕ) → readRest unseen i r ≡ cond (spaced r && allGood (parameters r)) (identity (i + 1) (parameters r)) Mail.Malformed
+-- from index i on, with nothing met
+rest-is : (i : ℕ) (r : List ℕ) → readRest Mail.Absent false i r ≡ cond (spaced r && allGood (parameters r)) (identity (i + 1) (parameters r)) Mail.Malformed
 unfolding readRest allGood
 rest-is i r = go (spaced r)
   where
-    go : (b : Bool) → cond b (readWords unseen (i + 1) (parameters r)) Mail.Malformed ≡ cond (b && (every good (parameters r) && leb (count AUTH (parameters r)) 1 && leb (count SUBMITTER (parameters r)) 1)) (identity (i + 1) (parameters r)) Mail.Malformed
-    go true = read-all (parameters r) unseen (i + 1)
+    go : (b : Bool) → cond b (readWords Mail.Absent false (i + 1) (parameters r)) Mail.Malformed ≡ cond (b && (every good (parameters r) && leb (count AUTH (parameters r)) 1 && leb (count SUBMITTER (parameters r)) 1)) (identity (i + 1) (parameters r)) Mail.Malformed
+    go true = read-all (parameters r) Mail.Absent false (i + 1)
     go false = refl
 
 -- the whole line
@@ -143,7 +174,7 @@ module _ (l : List ℕ) where
         let z : holds greater (drop 11 l) ≡ false = holds-before greater (drop 11 l) ∙ le-ltb (length (before greater (drop 11 l))) (length (drop 11 l)) (omega (arith, length-drop 11 l)) in
         rw (o, z)
 
-    pub whole : opens l ≡ true → e < length l → readRest unseen (e + 1) (drop (e + 1) l) ≡ mail l
+    pub whole : opens l ≡ true → e < length l → readRest Mail.Absent false (e + 1) (drop (e + 1) l) ≡ mail l
     unfolding mail wellFormed pathEnds
     whole o h =
         let z : holds greater (drop 11 l) ≡ true = holds-before greater (drop 11 l) ∙ lt-ltb (length (before greater (drop 11 l))) (length (drop 11 l)) (omega (arith, length-drop 11 l)) in

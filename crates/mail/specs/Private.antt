@@ -1,17 +1,15 @@
 -- What only the promises of private functions cite: a line read from left to right, one octet and one parameter after the other.
-use mathlib.Core.Bool.{Bool, true, false, cond}
+use mathlib.Core.Bool.{Bool, true, false, cond, not, _&&_}
 use mathlib.Core.List.{List, [], _∷_}
 use Prim.Native.Nat.{ℕ, suc, _+_}
 use lib.Dec.{eqb}
-use lib.ListN.{length}
+use lib.ListN.{length, getD, drop}
 use Rattle.octets.specs.Lists.{before, after}
 use Rattle.xtext.specs.Xtext
 use Rattle.mail.specs.Address.{address}
-use Rattle.mail.specs.Parameter.{equals, keywordChar, valueChar, parameter, named, null, AUTH, SUBMITTER, authValue, submitterValue}
-use Rattle.mail.specs.Mail.{spaced, parameters, said}
+use Rattle.mail.specs.Parameter.{equals, keywordChar, valueChar, value, named, good, null, AUTH, SUBMITTER, authValue, submitterValue}
+use Rattle.mail.specs.Mail.{space, spaced, parameters}
 use Rattle.mail.specs.declared.Mail.{Mail}
-use Rattle.mail.specs.declared.Seen.{Seen}
-use Rattle.mail.specs.declared.Noted.{Noted}
 use Rattle.mail.specs.declared.address.State.{State}
 use Rattle.mail.specs.declared.address.Judged.{Judged}
 use Rattle.mail.specs.declared.parameter.Class.{Class}
@@ -33,18 +31,18 @@ unfoldable pub run : State → List ℕ → State
 run s [] = s
 run s (x ∷ l) = run (step s x) l
 
-abbrev pub atEnd : State → ℕ → Judged
-atEnd State.Start n = Judged.Other
-atEnd State.Less n = Judged.Other
-atEnd State.Null n = Judged.Null
-atEnd State.Inner n = Judged.Other
-atEnd State.At n = Judged.Other
-atEnd State.Address n = Judged.Address n
+abbrev pub atEnd : State → ℕ → ℕ → Judged
+atEnd State.Start n e = Judged.Malformed
+atEnd State.Less n e = Judged.Malformed
+atEnd State.Null n e = Judged.Null e
+atEnd State.Inner n e = Judged.Malformed
+atEnd State.At n e = Judged.Malformed
+atEnd State.Address n e = Judged.Address e n
 
--- what a text stands for
-unfoldable pub judged : List ℕ → Judged
-judged v =
-    cond (Xtext.valid v) (cond (null v) Judged.Null (cond (address (Xtext.octets v)) (Judged.Address (length (Xtext.octets v))) Judged.Other)) Judged.Malformed
+-- what the value v stands for, which ends at index e
+unfoldable pub judged : ℕ → List ℕ → Judged
+judged e v =
+    cond (Xtext.valid v) (cond (null v) (Judged.Null e) (cond (address (Xtext.octets v)) (Judged.Address e (length (Xtext.octets v))) Judged.Malformed)) Judged.Malformed
 
 -- how many elements at the front of a list pass a test
 unfoldable pub span : (ℕ → Bool) → List ℕ → ℕ
@@ -56,13 +54,34 @@ abbrev pub charOf : Class → ℕ → Bool
 charOf Class.Keyword = keywordChar
 charOf Class.Value = valueChar
 
--- the parameter w at index i
-abbrev pub read : ℕ → List ℕ → Parameter
-read i w = cond (parameter w) (Parameter.Ends (i + length (before equals w)) (i + length w)) Parameter.Malformed
+-- what AUTH says by the value v, which stands from one index up to another
+unfoldable pub saying : ℕ → ℕ → List ℕ → Parameter
+saying from e v = cond (null v) (Parameter.Null e) (Parameter.Address from e (length (Xtext.octets v)))
 
--- what AUTH says by the value v, which stands at an index
-unfoldable pub authSaid : ℕ → List ℕ → Mail
-authSaid from v = cond (authValue v) (said from v) Mail.Malformed
+-- what stands from index k on, after the keyword AUTH, SUBMITTER or any other: whether it begins with "=", and its value
+abbrev pub marked : List ℕ → Bool
+marked r = eqb (getD r 0 0) equals
+
+abbrev pub valueOf : List ℕ → List ℕ
+valueOf r = before space (drop 1 r)
+
+unfoldable pub authFrom : ℕ → List ℕ → Parameter
+authFrom k r = cond (marked r && authValue (valueOf r)) (saying (k + 1) (k + 1 + length (valueOf r)) (valueOf r)) Parameter.Malformed
+
+unfoldable pub submitterFrom : ℕ → List ℕ → Parameter
+submitterFrom k r = cond (marked r && submitterValue (valueOf r)) (Parameter.Submitter (k + 1 + length (valueOf r))) Parameter.Malformed
+
+unfoldable pub otherFrom : ℕ → List ℕ → Parameter
+otherFrom k r = cond (spaced r) (Parameter.Other k) (cond (marked r && value (valueOf r)) (Parameter.Other (k + 1 + length (valueOf r))) Parameter.Malformed)
+
+-- the word w at index i, which is to be a parameter
+unfoldable pub found : ℕ → List ℕ → Parameter
+found i w =
+    cond (named AUTH w) (saying (i + length AUTH + 1) (i + length w) (after equals w))
+    (cond (named SUBMITTER w) (Parameter.Submitter (i + length w)) (Parameter.Other (i + length w)))
+
+unfoldable pub read : ℕ → List ℕ → Parameter
+read i w = cond (good w) (found i w) Parameter.Malformed
 
 abbrev pub isAbsent : Mail → Bool
 isAbsent Mail.Malformed = false
@@ -70,43 +89,26 @@ isAbsent Mail.Absent = true
 isAbsent Mail.Null = false
 isAbsent (Mail.Address from to n) = false
 
-abbrev pub isMalformed : Mail → Bool
-isMalformed Mail.Malformed = true
-isMalformed Mail.Absent = false
-isMalformed Mail.Null = false
-isMalformed (Mail.Address from to n) = false
+-- after what AUTH said and whether SUBMITTER was met: whether a parameter may not come, and what is read on with it
+abbrev pub refused : Mail → Bool → Parameter → Bool
+refused a s Parameter.Malformed = true
+refused a s (Parameter.Other e) = false
+refused a s (Parameter.Null e) = not (isAbsent a)
+refused a s (Parameter.Address from to n) = not (isAbsent a)
+refused a s (Parameter.Submitter e) = s
 
--- AUTH and SUBMITTER with the value v, in a parameter that ends at index e, after what was seen
-abbrev pub notedAuth : Seen → ℕ → ℕ → List ℕ → Noted
-notedAuth s from e v =
-    cond (isAbsent (s .auth)) (cond (authValue v) (Noted.Next (record { auth = said from v; submitter = s .submitter }) e) Noted.Malformed) Noted.Malformed
-
-abbrev pub notedSubmitter : Seen → ℕ → List ℕ → Noted
-notedSubmitter s e v =
-    cond (s .submitter) Noted.Malformed (cond (submitterValue v) (Noted.Next (record { auth = s .auth; submitter = true }) e) Noted.Malformed)
-
--- the parameter w at index i
-unfoldable pub noted : Seen → ℕ → List ℕ → Noted
-noted s i w =
-    cond (named AUTH w) (notedAuth s (i + length AUTH + 1) (i + length w) (after equals w))
-    (cond (named SUBMITTER w) (notedSubmitter s (i + length w) (after equals w)) (Noted.Next s (i + length w)))
-
--- a word that is to be a parameter
-unfoldable pub taken : Seen → ℕ → List ℕ → Noted
-taken s i w = cond (parameter w) (noted s i w) Noted.Malformed
+abbrev pub onward : Mail → Bool → Parameter → (Mail → Bool → ℕ → Mail) → Mail
+onward a s Parameter.Malformed k = Mail.Malformed
+onward a s (Parameter.Other e) k = k a s e
+onward a s (Parameter.Null e) k = cond (isAbsent a) (k Mail.Null s e) Mail.Malformed
+onward a s (Parameter.Address from to n) k = cond (isAbsent a) (k (Mail.Address from to n) s to) Mail.Malformed
+onward a s (Parameter.Submitter e) k = cond s Mail.Malformed (k a true e)
 
 -- all parameters, the first of which stands at index i
-abbrev pub onward : Noted → (Seen → ℕ → Mail) → Mail
-onward Noted.Malformed k = Mail.Malformed
-onward (Noted.Next s e) k = k s e
-
-unfoldable pub readWords : Seen → ℕ → List (List ℕ) → Mail
-readWords s i [] = s .auth
-readWords s i (w ∷ ws) = onward (taken s i w) (λ t e. readWords t (e + 1) ws)
-
-abbrev pub unseen : Seen
-unseen = record { auth = Mail.Absent; submitter = false }
+unfoldable pub readWords : Mail → Bool → ℕ → List (List ℕ) → Mail
+readWords a s i [] = a
+readWords a s i (w ∷ ws) = onward a s (read i w) (λ b t e. readWords b t (e + 1) ws)
 
 -- what stands after the path, from index i on
-unfoldable pub readRest : Seen → ℕ → List ℕ → Mail
-readRest s i r = cond (spaced r) (readWords s (i + 1) (parameters r)) Mail.Malformed
+unfoldable pub readRest : Mail → Bool → ℕ → List ℕ → Mail
+readRest a s i r = cond (spaced r) (readWords a s (i + 1) (parameters r)) Mail.Malformed

@@ -1,5 +1,9 @@
-// Whether a text in xtext stands for "<>" or for an address, told in one pass, with no octets kept.
+// Whether a value in xtext stands for "<>" or for an address, told in one pass, with no octets kept.
 ghost use mathlib.Core.Path.{_≡_};
+ghost use Prim.Native.Nat.{_+_};
+ghost use lib.ListN.{length, drop};
+ghost use Rattle.octets.specs.Lists.{before};
+ghost use Rattle.mail.specs.Mail.{space, spaced};
 ghost use Rattle.mail.specs.Private.{passed, step, atEnd, judged};
 use xtext::Character;
 
@@ -14,12 +18,21 @@ pub enum State {
     Address,
 }
 
-// What a text stands for, with an address's length.
+// What a value stands for, with where it ends and an address's length. Malformed: neither of the two.
 pub enum Judged {
     Malformed,
-    Null,
-    Address(usize),
-    Other,
+    Null { end: usize },
+    Address { end: usize, length: usize },
+}
+
+// Whether the line, or what stands before a space, ends at an index.
+pub fn is_end(line: &[u8], i: usize) -> bool
+    ensures { λ r. ⌜ r ≡ spaced (drop i (now (line .entry))) ⌝ }
+{
+    if line.len() <= i {
+        return true;
+    }
+    line[i] == b' '
 }
 
 // After an octet that is not the first.
@@ -64,34 +77,40 @@ fn step(s: State, x: u8) -> State
     }
 }
 
-// At the end of n octets.
-fn at_end(s: State, n: usize) -> Judged
-    ensures { λ r. ⌜ r ≡ atEnd s n ⌝ }
+// At the end of n octets, whose text ends at an index.
+fn at_end(s: State, n: usize, end: usize) -> Judged
+    ensures { λ r. ⌜ r ≡ atEnd s n end ⌝ }
 {
     match s {
-        State::Start => Judged::Other,
-        State::Less => Judged::Other,
-        State::Null => Judged::Null,
-        State::Inner => Judged::Other,
-        State::At => Judged::Other,
-        State::Address => Judged::Address(n),
+        State::Start => Judged::Malformed,
+        State::Less => Judged::Malformed,
+        State::Null => Judged::Null { end: end },
+        State::Inner => Judged::Malformed,
+        State::At => Judged::Malformed,
+        State::Address => Judged::Address {
+            end: end,
+            length: n,
+        },
     }
 }
 
-// Reads a text in xtext to its end.
-pub fn judge(text: &[u8]) -> Judged
-    ensures { λ r. ⌜ r ≡ judged (now (text .entry)) ⌝ }
+// Reads the value from an index on up to a space or the line's end. A space is no character of xtext.
+pub fn judge(line: &[u8], from: usize) -> Judged
+    ensures { λ r. ⌜ r ≡ judged (from + length (before space (drop from (now (line .entry))))) (before space (drop from (now (line .entry)))) ⌝ }
 {
     let mut s = State::Start;
     let mut n: usize = 0;
-    let mut i: usize = 0;
+    let mut i = from;
     loop {
-        let c = xtext::character_at(text, i);
+        let c = xtext::character_at(line, i);
         match c {
             Character::End => {
-                return at_end(s, n);
+                return at_end(s, n, i);
             }
             Character::Malformed => {
+                if is_end(line, i) {
+                    return at_end(s, n, i);
+                }
                 return Judged::Malformed;
             }
             Character::Octet { value, next } => {

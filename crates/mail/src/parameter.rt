@@ -4,13 +4,30 @@ ghost use Prim.Native.Nat.{_+_};
 ghost use lib.ListN.{drop};
 ghost use Rattle.octets.specs.Lists.{before};
 ghost use Rattle.mail.specs.Parameter.{keywordFirst, keywordChar, valueChar};
-ghost use Rattle.mail.specs.Mail.{space, spaced};
-ghost use Rattle.mail.specs.Private.{charOf, span, read};
+ghost use Rattle.mail.specs.Mail.{space};
+ghost use Rattle.mail.specs.Private.{charOf, span, marked, authFrom, submitterFrom, otherFrom, read};
+use crate::address::Judged;
+use crate::address::is_end;
+use crate::address::judge;
 
-// Where a parameter's keyword ends and where the parameter ends. Malformed: what stands there is none.
+// A parameter and where it ends: AUTH with "<>"; AUTH with an address, whose xtext stands at these indices and decodes to so many octets;
+// SUBMITTER; any other. Malformed: what stands there is none of these.
 pub enum Parameter {
     Malformed,
-    Ends { keyword: usize, whole: usize },
+    Other {
+        end: usize,
+    },
+    Null {
+        end: usize,
+    },
+    Address {
+        from: usize,
+        to: usize,
+        length: usize,
+    },
+    Submitter {
+        end: usize,
+    },
 }
 
 // The characters of a keyword, and those of a value.
@@ -30,11 +47,56 @@ pub fn read(line: &[u8], i: usize) -> Parameter
         return Parameter::Malformed;
     }
     let k = end_of(Class::Keyword, line, i + 1);
+    let keyword = octets::part(line, i, k);
+    if octets::is_word(keyword, b"AUTH") {
+        return read_auth(line, k);
+    }
+    if octets::is_word(keyword, b"SUBMITTER") {
+        return read_submitter(line, k);
+    }
+    read_other(line, k)
+}
+
+// AUTH, whose keyword ends at index k. Its value is judged at once: xtext has no other characters than a value may have.
+fn read_auth(line: &[u8], k: usize) -> Parameter
+    ensures { λ r. ⌜ r ≡ authFrom k (drop k (now (line .entry))) ⌝ }
+{
+    if !is_marked(line, k) {
+        return Parameter::Malformed;
+    }
+    let j = judge(line, k + 1);
+    match j {
+        Judged::Malformed => Parameter::Malformed,
+        Judged::Null { end } => Parameter::Null { end: end },
+        Judged::Address { end, length } => Parameter::Address {
+            from: k + 1,
+            to: end,
+            length: length,
+        },
+    }
+}
+
+// The same of SUBMITTER.
+fn read_submitter(line: &[u8], k: usize) -> Parameter
+    ensures { λ r. ⌜ r ≡ submitterFrom k (drop k (now (line .entry))) ⌝ }
+{
+    if !is_marked(line, k) {
+        return Parameter::Malformed;
+    }
+    let j = judge(line, k + 1);
+    match j {
+        Judged::Malformed => Parameter::Malformed,
+        Judged::Null { .. } => Parameter::Malformed,
+        Judged::Address { end, .. } => Parameter::Submitter { end: end },
+    }
+}
+
+// The same of any other keyword, which may stand without a value.
+fn read_other(line: &[u8], k: usize) -> Parameter
+    ensures { λ r. ⌜ r ≡ otherFrom k (drop k (now (line .entry))) ⌝ }
+{
     if is_end(line, k) {
-        return Parameter::Ends {
-            keyword: k,
-            whole: k,
-        };
+        return Parameter::Other { end: k };
     }
     if line[k] != b'=' {
         return Parameter::Malformed;
@@ -44,22 +106,19 @@ pub fn read(line: &[u8], i: usize) -> Parameter
         return Parameter::Malformed;
     }
     if is_end(line, e) {
-        return Parameter::Ends {
-            keyword: k,
-            whole: e,
-        };
+        return Parameter::Other { end: e };
     }
     Parameter::Malformed
 }
 
-// Whether the line, or what stands before a space, ends at an index.
-fn is_end(line: &[u8], i: usize) -> bool
-    ensures { λ r. ⌜ r ≡ spaced (drop i (now (line .entry))) ⌝ }
+// Whether "=" stands at an index.
+fn is_marked(line: &[u8], i: usize) -> bool
+    ensures { λ r. ⌜ r ≡ marked (drop i (now (line .entry))) ⌝ }
 {
     if line.len() <= i {
-        return true;
+        return false;
     }
-    line[i] == b' '
+    line[i] == b'='
 }
 
 fn is_keyword_first(x: u8) -> bool

@@ -14,7 +14,7 @@ at-end-spec =
     (λ c. search needs)
     (λ c. search needs)
     (λ c. search needs)
-    (λ c. search needs)
+    (λ c. rw (c .enum-told3 .given .1))
     (λ c. search needs)
     (λ c. search needs)
     (λ c. rw (c .enum-told6 .given .1)))

@@ -1,8 +1,8 @@
 use native.Mathlib.Omega.{arith}
 use borrow.Author.Needs.{needs}
 use Rattle.mail.proofs.Spans.{end-spaced, at-spaced}
-use Rattle.mail.proofs.parameter.is_end.Statement.{statement}
-use Rattle.mail.proofs.parameter.is_end.Tie as tie
+use Rattle.mail.proofs.address.is_end.Statement.{statement}
+use Rattle.mail.proofs.address.is_end.Tie as tie
 
 pub is-end-spec : {M : Type 1} → statement M
 is-end-spec =
