@@ -32,6 +32,9 @@ fn parameters() {
         Profile::smtp(),
         b"MAIL FROM:<a> X=|MAIL FROM:<a> =X|MAIL FROM:<a> -X|MAIL FROM:<a> X_Y|MAIL FROM:<a> X=a=b|MAIL FROM:<a> X==|MAIL FROM:<a> X=\x7f|MAIL FROM:<a> X=\x80|MAIL FROM:<a> X=\t",
     );
+}
+
+fn parameter_octets() {
     with_each(Profile::smtp(), b"MAIL FROM:<a> X", 14);
     with_each(Profile::smtp(), b"MAIL FROM:<a> XX", 15);
     with_each(Profile::smtp(), b"MAIL FROM:<a> X=y", 16);
@@ -69,6 +72,7 @@ pub fn run() {
     examples();
     paths();
     parameters();
+    parameter_octets();
     identities();
     identity_misses();
     limits();

@@ -93,19 +93,24 @@ pub fn line(p: Profile, text: &[u8]) {
     put(b"\n");
 }
 
-pub fn response(p: Profile, text: &[u8]) {
+// What a response has beside its length.
+fn parts_of_response(text: &[u8], r: Response) {
     let mut out = [0u8; 64];
-    show::profile(p);
-    put(b" response ");
-    quoted(text);
-    put(b": ");
-    let r = lines::response::read_response(p, text);
-    show::response(r);
     match r {
         Response::Length(_) => {
             octets_of(base64::decode(text, &mut out), &out);
         }
         _ => {}
     }
+}
+
+pub fn response(p: Profile, text: &[u8]) {
+    show::profile(p);
+    put(b" response ");
+    quoted(text);
+    put(b": ");
+    let r = lines::response::read_response(p, text);
+    show::response(r);
+    parts_of_response(text, r);
     put(b"\n");
 }

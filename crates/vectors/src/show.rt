@@ -55,18 +55,25 @@ fn mail(m: Mail) {
     }
 }
 
-pub fn command(c: Command) {
+// A verb that was read.
+fn verb(c: Command) {
     match c {
-        Command::NotUnderstood => put(b"not understood"),
-        Command::Malformed => put(b"malformed"),
         Command::Ehlo => put(b"EHLO"),
         Command::Helo => put(b"HELO"),
         Command::Rset => put(b"RSET"),
         Command::Quit => put(b"QUIT"),
+        _ => put(b"other"),
+    }
+}
+
+pub fn command(c: Command) {
+    match c {
+        Command::NotUnderstood => put(b"not understood"),
+        Command::Malformed => put(b"malformed"),
         Command::Mail(m) => mail(m),
         Command::Auth(a) => auth(a),
         Command::Barred => put(b"not permitted"),
-        Command::Other => put(b"other"),
+        _ => verb(c),
     }
 }
 
