@@ -3,12 +3,10 @@ use mathlib.Core.Bool.{cond}
 use mathlib.Core.List.{List}
 use Prim.Native.Nat.{ℕ}
 use Rattle.octets.specs.Ascii.{ascii, capitals}
+pub use Rattle.octets.specs.Ascii.{space}
 use Rattle.octets.specs.Lists.{same, before}
 use Rattle.lines.specs.declared.verb.Verb.{Verb}
 use Rattle.lines.specs.declared.verb.Verb.the-variants.{Ehlo, Helo, Rset, Quit, Mail, Auth, User, Pass, Apop, Other}
-
-abbrev pub space : ℕ
-space = 0x20
 
 -- "Verbs end at the first space or line end; case is ignored." (document 01)
 unfoldable pub verb : List ℕ → List ℕ

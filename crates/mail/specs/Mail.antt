@@ -5,14 +5,12 @@ use Prim.Native.Nat.{ℕ, suc, _+_, _-_}
 use lib.Dec.{leb, eqb}
 use lib.ListN.{length, getD, take, drop}
 use Rattle.octets.specs.Ascii.{ascii, capitals}
+pub use Rattle.octets.specs.Ascii.{space}
 use Rattle.octets.specs.Lists.{isEmpty, holds, every, same, after}
 use Rattle.xtext.specs.Xtext
 use Rattle.mail.specs.Parameter.{equals, named, good, null, AUTH, SUBMITTER}
 use Rattle.mail.specs.declared.Mail.{Mail}
 use Rattle.mail.specs.declared.Mail.the-variants.{Malformed, Absent, Null, Address}
-
-abbrev pub space : ℕ
-space = 0x20
 
 -- "`MAIL FROM:` (case ignored), "<""
 unfoldable pub opens : List ℕ → Bool

@@ -14,6 +14,9 @@ codes s (suc n) i = code (charAt s i) ∷ codes s n (suc i)
 abbrev pub ascii : String → List ℕ
 ascii s = codes s (len s) 0
 
+abbrev pub space : ℕ
+space = 0x20
+
 -- "A-Z", "a-z", "0-9"
 abbrev pub isCapital : ℕ → Bool
 isCapital x = leb 0x41 x && leb x 0x5A

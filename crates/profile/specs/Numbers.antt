@@ -23,7 +23,10 @@ profileNumber Smtp = 0
 profileNumber Pop3 = 1
 
 abbrev pub profileOf : ℕ → ListedProfile
-profileOf n = cond (eqb n 0) (ListedProfiles.Known Smtp) (cond (eqb n 1) (ListedProfiles.Known Pop3) ListedProfiles.Unlisted)
+profileOf n =
+    cond (eqb n (profileNumber Smtp)) (ListedProfiles.Known Smtp)
+    (cond (eqb n (profileNumber Pop3)) (ListedProfiles.Known Pop3)
+    ListedProfiles.Unlisted)
 
 -- "Verdicts: challenge ..; success with a name ..; rejected, temporary, transition, weak", in this order from 0
 abbrev pub verdictNumber : Verdict → ℕ
@@ -36,12 +39,12 @@ verdictNumber Weak = 5
 
 abbrev pub verdictOf : ℕ → ListedVerdict
 verdictOf n =
-    cond (eqb n 0) (ListedVerdicts.Known Challenge)
-    (cond (eqb n 1) (ListedVerdicts.Known Success)
-    (cond (eqb n 2) (ListedVerdicts.Known Rejected)
-    (cond (eqb n 3) (ListedVerdicts.Known Temporary)
-    (cond (eqb n 4) (ListedVerdicts.Known Transition)
-    (cond (eqb n 5) (ListedVerdicts.Known Weak)
+    cond (eqb n (verdictNumber Challenge)) (ListedVerdicts.Known Challenge)
+    (cond (eqb n (verdictNumber Success)) (ListedVerdicts.Known Success)
+    (cond (eqb n (verdictNumber Rejected)) (ListedVerdicts.Known Rejected)
+    (cond (eqb n (verdictNumber Temporary)) (ListedVerdicts.Known Temporary)
+    (cond (eqb n (verdictNumber Transition)) (ListedVerdicts.Known Transition)
+    (cond (eqb n (verdictNumber Weak)) (ListedVerdicts.Known Weak)
     ListedVerdicts.Unlisted)))))
 
 -- "No. | Given exactly when"; 0, which is no refusal's number, tells that a call was not refused

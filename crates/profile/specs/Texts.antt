@@ -3,7 +3,7 @@ use mathlib.Core.Bool.{Bool, _||_}
 use mathlib.Core.List.{List, [], _∷_, _++_}
 use Prim.Native.Nat.{ℕ}
 use lib.ListN.{length, take}
-use Rattle.octets.specs.Ascii.{ascii}
+use Rattle.octets.specs.Ascii.{ascii, space}
 use Rattle.octets.specs.Lists.{same, after}
 use Rattle.profile.specs.declared.Profile.{Profile}
 use Rattle.profile.specs.declared.Profile.the-variants.{Smtp, Pop3}
@@ -32,7 +32,7 @@ smtp Rejected = ascii "535 5.7.8 Credentials not accepted"
 
 -- ""Same" means -ERR, a space and the words after the codes": after the second space
 unfoldable pub words : List ℕ → List ℕ
-words t = after 0x20 (after 0x20 t)
+words t = after space (after space t)
 
 abbrev pub sameWords : Reply → List ℕ
 sameWords r = ascii "-ERR " ++ words (smtp r)
