@@ -1,16 +1,15 @@
 -- Laws of lists that the proofs of lines share. Assumes nothing.
 use mathlib.Core.Path.{_≡_, refl, sym, _∙_, ap}
-use mathlib.Core.Bool.{Bool, true, false, cond, _||_, false≢true}
+use mathlib.Core.Bool.{Bool, true, false, _||_, false≢true}
 use mathlib.Core.List.{List, [], _∷_, _++_}
 use Prim.Native.Nat.{ℕ, zero, suc, _+_, _<_, _≤_}
-use native.Mathlib.Nat.{not-suc-le-zero, le-of-suc-le-suc}
 use native.Mathlib.Numerals.{add-one}
 use native.Mathlib.Omega.{arith}
 use borrow.Author.Tests.{ne-eqb}
 use lib.Dec.{leb, eqb, leb·zero, leb·suc-zero, leb·suc-suc}
-use lib.ListN.{length, getD, take, drop, replicate, drop-of-length-le}
+use lib.ListN.{length, getD, drop, drop-of-length-le}
 use lib.Seq.{drop-cons}
-use Rattle.octets.specs.Lists.{isEmpty, holds, every, before}
+use Rattle.octets.specs.Lists.{isEmpty, holds, every}
 use Rattle.octets.proofs.Cases.{both}
 
 -- a test of each element, at an index
@@ -35,17 +34,6 @@ not-held f x (y ∷ l) h e =
     let k = both (f y) (every f l) e in
     rw (ne-eqb y x (λ g. false≢true (sym h ∙ sym (ap f g) ∙ k .0)), not-held f x l h (k .1))
 
--- what stands before an octet, of the first octets of a list
-pub take-before : (x n : ℕ) (l : List ℕ) → before x (take n l) ≡ take n (before x l)
-unfolding before
-take-before x zero l = refl
-take-before x (suc n) [] = refl
-take-before x (suc n) (y ∷ l) = go (eqb y x) (take-before x n l)
-  where
-    go : (t : Bool) → before x (take n l) ≡ take n (before x l) → cond t [] (y ∷ before x (take n l)) ≡ take (suc n) (cond t [] (y ∷ before x l))
-    go true e = refl
-    go false e = ap (λ (m : List ℕ). y ∷ m) e
-
 -- whether a list ends at an index; whether one of a length is empty
 pub isEmpty-drop : (n : ℕ) (l : List ℕ) → isEmpty (drop n l) ≡ leb (length l) n
 isEmpty-drop zero [] = sym (leb·zero 0)
@@ -63,8 +51,3 @@ same-empty (x ∷ r) (y ∷ s) e = refl
 pub holds-end : (x : ℕ) (u v w : List ℕ) → holds x v ≡ holds x w → holds x (u ++ v) ≡ holds x (u ++ w)
 holds-end x [] v w e = e
 holds-end x (y ∷ u) v w e = ap (λ (b : Bool). eqb y x || b) (holds-end x u v w e)
-
-pub take-replicate : (n k : ℕ) → n ≤ k → replicate {A = ℕ} n 0 ≡ take n (replicate k 0)
-take-replicate zero k h = refl
-take-replicate (suc n) zero h = absurd (not-suc-le-zero h)
-take-replicate (suc n) (suc k) h = ap (λ (l : List ℕ). 0 ∷ l) (take-replicate n k (le-of-suc-le-suc h))

@@ -5,9 +5,8 @@ use Prim.Native.Nat.{ℕ, zero, suc}
 use lib.ListN.{length, take}
 use Rattle.octets.specs.Ascii.{capital, capitals}
 use Rattle.octets.specs.Lists.{same, before}
-use Rattle.octets.proofs.Words.{before-take}
+use Rattle.octets.proofs.Words.{before-take, take-before}
 use Rattle.lines.specs.Verb.{space, verb, verbOf}
-use Rattle.lines.proofs.Lists.{take-before}
 
 capitals-take : (n : ℕ) (l : List ℕ) → capitals (take n l) ≡ take n (capitals l)
 capitals-take zero l = refl

@@ -1,11 +1,11 @@
 -- Mechanism names (RFC 4422 section 3.1).
 use mathlib.Core.Bool.{Bool, _&&_, _||_}
-use mathlib.Core.List.{List, _++_}
+use mathlib.Core.List.{List}
 use Prim.Native.Nat.{ℕ}
 use lib.Dec.{leb, eqb}
-use lib.ListN.{length, take, replicate}
+use lib.ListN.{length}
 use Rattle.octets.specs.Ascii.{isCapital, isDigit}
-use Rattle.octets.specs.Lists.{every}
+use Rattle.octets.specs.Lists.{every, paddedTo}
 
 -- "mech-char = UPPER-ALPHA / DIGIT / HYPHEN / UNDERSCORE"
 abbrev pub mechChar : ℕ → Bool
@@ -17,4 +17,4 @@ mechanism m = leb 1 (length m) && leb (length m) 20 && every mechChar m
 
 -- "Each name is kept in twenty octets, padded with NUL" (document 01)
 unfoldable pub padded : List ℕ → List ℕ
-padded m = take 20 (m ++ replicate 20 0)
+padded m = paddedTo 20 m

@@ -5,3 +5,4 @@ pub mod Alphabet
 pub mod Cases
 pub mod Answers
 pub mod Words
+pub mod Padded

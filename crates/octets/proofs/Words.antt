@@ -2,7 +2,7 @@
 use mathlib.Core.Path.{_≡_, refl, sym, _∙_, ap}
 use mathlib.Core.Bool.{Bool, true, false, cond, _||_, false≢true}
 use mathlib.Core.List.{List, [], _∷_, _++_}
-use Prim.Native.Nat.{ℕ, suc, _+_, _-_, _<_, _≤_}
+use Prim.Native.Nat.{ℕ, zero, suc, _+_, _-_, _<_, _≤_}
 use native.Mathlib.Numerals.{add-one}
 use native.Mathlib.Omega.{arith}
 use borrow.Author.Tests.{eq-eqb, ne-eqb, eqb-true, le-leb, lt-leb, lt-ltb}
@@ -113,6 +113,17 @@ length-before x (y ∷ l) = go (eqb y x) (length-before x l)
     go : (t : Bool) → length (before x l) ≤ length l → length (cond t [] (y ∷ before x l)) ≤ suc (length l)
     go true h = omega arith
     go false h = omega arith
+
+-- what stands before an octet, of the first octets of a list
+pub take-before : (x n : ℕ) (l : List ℕ) → before x (take n l) ≡ take n (before x l)
+unfolding before
+take-before x zero l = refl
+take-before x (suc n) [] = refl
+take-before x (suc n) (y ∷ l) = go (eqb y x) (take-before x n l)
+  where
+    go : (t : Bool) → before x (take n l) ≡ take n (before x l) → cond t [] (y ∷ before x (take n l)) ≡ take (suc n) (cond t [] (y ∷ before x l))
+    go true e = refl
+    go false e = ap (λ (m : List ℕ). y ∷ m) e
 
 -- so a search that begins within a line ends within it
 pub find-within : (x : ℕ) (l : List ℕ) (i : ℕ) → i ≤ length l → i + length (before x (drop i l)) ≤ length l

@@ -1,8 +1,9 @@
 -- Words for what definitions and laws say of lists.
 use mathlib.Core.Bool.{Bool, true, false, cond, _&&_, _||_}
-use mathlib.Core.List.{List, [], _∷_}
+use mathlib.Core.List.{List, [], _∷_, _++_}
 use Prim.Native.Nat.{ℕ, _<_}
 use lib.Dec.{eqb}
+use lib.ListN.{take, replicate}
 
 -- every number of the list is an octet
 abbrev pub Octets : List ℕ → Type 0
@@ -38,3 +39,7 @@ before x (y ∷ l) = cond (eqb y x) [] (y ∷ before x l)
 unfoldable pub after : ℕ → List ℕ → List ℕ
 after x [] = []
 after x (y ∷ l) = cond (eqb y x) l (after x l)
+
+-- a list in n octets, padded with NUL
+unfoldable pub paddedTo : ℕ → List ℕ → List ℕ
+paddedTo n l = take n (l ++ replicate n 0)
