@@ -5,5 +5,7 @@ pub use Rattle.lines.proofs.Alikes.{same-response, spaced-response, sam
 pub use Rattle.lines.proofs.Alikes.{initial-text}
 -- what a reading points to is a mechanism's name, and base64 of the length told
 pub use Rattle.lines.proofs.Readings.{name-read, name-read-initial, initial-read, initial-fits, response-read}
+-- a command's reading holds that of the MAIL or AUTH line that it is
+pub use Rattle.lines.proofs.Readings.{Holds, command-read}
 -- names of the form are told apart by their twenty octets
 pub use Rattle.lines.proofs.Names.{padded-length, padded-same}

@@ -1,28 +1,36 @@
 -- What a reading points to is of the form and the length told. Assumes nothing.
 use mathlib.Core.Path.{_≡_, refl, sym, _∙_, ap}
-use mathlib.Core.Bool.{Bool, true, false, cond}
+use mathlib.Core.Bool.{Bool, true, false, cond, not}
 use mathlib.Core.List.{List, []}
 use Prim.Native.Nat.{ℕ, _+_, _≤_}
 use native.Mathlib.Omega.{arith}
-use borrow.Author.Tests.{ltb-false}
-use lib.Dec.{ltb}
+use borrow.Author.Tests.{ltb-false, leb-true}
+use lib.Dec.{leb, ltb}
 use lib.ListN.{length, take, drop, length-drop}
 use lib.Seq.{drop-drop}
 use Rattle.octets.specs.Ascii.{ascii, capitals}
 use Rattle.octets.specs.Lists.{isEmpty, holds, same, before, after}
 use Rattle.octets.specs.declared.Measured.{Measured}
+use Rattle.octets.proofs.Cases.{both}
 use Rattle.octets.proofs.Words.{same-true}
 use Rattle.base64.specs.Base64.{valid, octets, measured}
 use Rattle.base64.proofs.Laws.{length-octets}
-use Rattle.profile.specs.Limits.{responseLimit}
+use Rattle.profile.specs.Limits.{commandLimit, mailLimit, responseLimit}
 use Rattle.profile.specs.declared.Profile.{Profile}
+use Rattle.profile.specs.declared.Profile.the-variants.{Smtp, Pop3}
+use Rattle.mail.specs.Mail.{mail}
 use Rattle.lines.specs.Mechanism.{mechanism}
-use Rattle.lines.specs.Verb.{space}
+use Rattle.lines.specs.Verb.{space, verb, verbOf}
 use Rattle.lines.specs.Auth.{auth, arguments, initial, given, nameText}
 use Rattle.lines.specs.Response.{response, decoding}
+use Rattle.lines.specs.Command.{limit, forbidden, understood, by, command}
 use Rattle.lines.specs.declared.auth.Auth.{Auth}
 use Rattle.lines.specs.declared.auth.Auth.the-variants.{Malformed, Alone, Initial}
+use Rattle.lines.specs.declared.command.Command.{Command}
+use Rattle.lines.specs.declared.command.Command.the-variants as Commands
 use Rattle.lines.specs.declared.response.Response.the-variants as Responses
+use Rattle.lines.specs.declared.verb.Verb.{Verb}
+use Rattle.lines.specs.declared.verb.Verb.the-variants as Verbs
 use Rattle.lines.proofs.Auths.{name, rest}
 
 -- what a reading of an AUTH line points to: a name of a mechanism's form, and base64 of the length told
@@ -113,3 +121,51 @@ unfolding response
 response-read p l n e =
     let t = response-told n (length (octets l)) (ltb (responseLimit p) (length l)) (same l (ascii "*")) (valid l) e in
     (t .1, t .2, omega (arith, t .2, length-octets l (t .1), ltb-false (responseLimit p) (length l) (t .0)))
+
+-- a command's reading holds that of the MAIL or AUTH line that it is, which is within its limit
+abbrev pub Holds : Profile → List ℕ → Command → Type 0
+Holds p l Commands.NotUnderstood = Unit {0}
+Holds p l Commands.Malformed = Unit {0}
+Holds p l Commands.Ehlo = Unit {0}
+Holds p l Commands.Helo = Unit {0}
+Holds p l Commands.Rset = Unit {0}
+Holds p l Commands.Quit = Unit {0}
+Holds p l (Commands.Mail m) = (m ≡ mail l) × (length l ≤ mailLimit p)
+Holds p l (Commands.Auth a) = (a ≡ auth l) × (length l ≤ commandLimit p)
+Holds p l Commands.Barred = Unit {0}
+Holds p l Commands.Other = Unit {0}
+
+module _ (l : List ℕ) where
+  formed : (p : Profile) (b : Bool) (c : Command) → Holds p l c → Holds p l (cond b Commands.Malformed c)
+  formed p true c h = tt
+  formed p false c h = h
+
+  by-verb : (p : Profile) (v : Verb) → length l ≤ limit p v → Holds p l (by p v l)
+  by-verb Smtp Verbs.Ehlo h = formed Smtp (isEmpty (after space l)) Commands.Ehlo tt
+  by-verb Smtp Verbs.Helo h = formed Smtp (isEmpty (after space l)) Commands.Helo tt
+  by-verb Smtp Verbs.Rset h = formed Smtp (holds space l) Commands.Rset tt
+  by-verb Smtp Verbs.Quit h = formed Smtp (holds space l) Commands.Quit tt
+  by-verb Smtp Verbs.Mail h = (refl, h)
+  by-verb Smtp Verbs.Auth h = (refl, h)
+  by-verb Smtp Verbs.User h = tt
+  by-verb Smtp Verbs.Pass h = tt
+  by-verb Smtp Verbs.Apop h = tt
+  by-verb Smtp Verbs.Other h = tt
+  by-verb Pop3 Verbs.Ehlo h = tt
+  by-verb Pop3 Verbs.Helo h = tt
+  by-verb Pop3 Verbs.Rset h = tt
+  by-verb Pop3 Verbs.Quit h = tt
+  by-verb Pop3 Verbs.Mail h = tt
+  by-verb Pop3 Verbs.Auth h = (refl, h)
+  by-verb Pop3 Verbs.User h = tt
+  by-verb Pop3 Verbs.Pass h = tt
+  by-verb Pop3 Verbs.Apop h = tt
+  by-verb Pop3 Verbs.Other h = tt
+
+  pub command-read : (p : Profile) → Holds p l (command p l)
+  unfolding command understood
+  command-read p = go (understood p (verbOf (verb l)) l) refl
+    where
+      go : (b : Bool) → understood p (verbOf (verb l)) l ≡ b → Holds p l (cond b (by p (verbOf (verb l)) l) Commands.NotUnderstood)
+      go true h = by-verb p (verbOf (verb l)) (leb-true _ _ (both (leb (length l) (limit p (verbOf (verb l)))) (not (forbidden l)) h .0))
+      go false h = tt
