@@ -1,0 +1,111 @@
+-- "The cases marked P are proved of the definitions as a single table under one claim" (document 01, "Both sides of each line").
+use mathlib.Core.Path.{_≡_}
+use mathlib.Core.Bool.{true, cond}
+use mathlib.Core.List.{List, [], _∷_, _++_, map}
+use Prim.Native.Nat.{ℕ}
+use Prim.Native.String.{String}
+use Rattle.octets.specs.Ascii.{ascii}
+use Rattle.base64.specs.Base64
+use Rattle.xtext.specs.Xtext
+use Rattle.profile.specs.Texts.{crlf}
+use Rattle.profile.specs.declared.Profile.{Profile}
+use Rattle.profile.specs.declared.Profile.the-variants.{Smtp, Pop3}
+use Rattle.lines.specs.Mechanism.{mechanism}
+use Rattle.session.specs.Session.{opened}
+use Rattle.session.specs.View.{view}
+use Rattle.session.specs.Octets.{queryOctets}
+use Rattle.session.specs.Answer.{heard}
+use Rattle.session.specs.Line.{afterLine}
+use Rattle.session.specs.declared.Session.{Session}
+use Rattle.session.specs.declared.answer.Answer.{Answer}
+use Rattle.session.specs.declared.answer.Answer.the-variants as Answers
+use Rattle.session.specs.declared.view.Offer.{Offer}
+use Rattle.session.specs.declared.view.Offer.the-variants as Offers
+
+-- what is put in
+pub data Input : Type 0 where
+  -- a text, to be decoded
+  isBase64 : String → Input
+  isXtext : String → Input
+  -- a mechanism's name
+  isMechanism : String → Input
+  -- the lines of a connection, one after the other; the last one counts
+  hears : Profile → List String → Input
+
+-- what comes out
+pub data Outcome : Type 0 where
+  refused : Outcome
+  taken : Outcome
+  -- the octets that a text stands for
+  gives : List ℕ → Outcome
+  -- a line: it is passed on; the service is asked, with so many octets and these; the client hears a text
+  forwards : Outcome
+  asks : ℕ → List ℕ → Outcome
+  says : List ℕ → Outcome
+
+-- a connection is protected, and the mechanism that its AUTH line names is client-first and needs protection; the ticket is 1
+abbrev pub offered : Offer
+offered = Offers.Present true true
+
+abbrev pub answered : Profile → List ℕ → Answer → Outcome
+answered p o (Answers.Refused r) = refused
+answered p o (Answers.Forward i n) = forwards
+answered p o (Answers.Query t b n) = asks n o
+answered p o (Answers.Reply e) = says (heard p [] (Answers.Reply e))
+answered p o Answers.Challenge = says (heard p [] Answers.Challenge)
+
+-- c: what came of the line before
+abbrev pub sends : Profile → Session → Outcome → List String → Outcome
+sends p s c [] = c
+sends p s c (l ∷ ls) =
+    sends p (afterLine s (view s (ascii l)) offered 1 .session) (answered p (queryOctets (view s (ascii l)) (ascii l)) (afterLine s (view s (ascii l)) offered 1 .answer)) ls
+
+abbrev pub outcome : Input → Outcome
+outcome (isBase64 t) = cond (Base64.valid (ascii t)) (gives (Base64.octets (ascii t))) refused
+outcome (isXtext t) = cond (Xtext.valid (ascii t)) (gives (Xtext.octets (ascii t))) refused
+outcome (isMechanism n) = cond (mechanism (ascii n)) taken refused
+outcome (hears p ls) = sends p (opened p true) refused ls
+
+pub record Row : Type 0 where
+  pub input : Input
+  pub expected : Outcome
+
+abbrev pub row : Input → Outcome → Row
+row i o = record { input = i; expected = o }
+
+-- an exchange in which an answer is awaited
+abbrev pub smtp : String → Input
+smtp l = hears Smtp ("EHLO a.example" ∷ "AUTH PLAIN" ∷ l ∷ [])
+
+abbrev pub pop3 : String → Input
+pop3 l = hears Pop3 ("AUTH PLAIN" ∷ l ∷ [])
+
+abbrev pub cases : List Row
+cases =
+    -- "P `Zm9v` is foo; P `Zg==` is f; P `Zh==` refused; P `=AAA` refused; P `AAA=BBB` refused; P an empty answer is zero octets."
+    row (isBase64 "Zm9v") (gives (ascii "foo"))
+    ∷ row (isBase64 "Zg==") (gives (ascii "f"))
+    ∷ row (isBase64 "Zh==") refused
+    ∷ row (isBase64 "=AAA") refused
+    ∷ row (isBase64 "AAA=BBB") refused
+    ∷ row (smtp "") (asks 0 [])
+    ∷ row (pop3 "") (asks 0 [])
+    -- "P "=" as initial response: zero octets; P "=" as an answer: 501."
+    ∷ row (hears Smtp ("EHLO a.example" ∷ "AUTH PLAIN =" ∷ [])) (asks 0 [])
+    ∷ row (hears Pop3 ("AUTH PLAIN =" ∷ [])) (asks 0 [])
+    ∷ row (smtp "=") (says (ascii "501 5.5.2 Syntax error" ++ crlf))
+    ∷ row (pop3 "=") (says (ascii "-ERR Syntax error" ++ crlf))
+    -- "P `e+3Dmc2@example.com` is e=mc2@example.com (001); P `+3d` refused."
+    ∷ row (isXtext "e+3Dmc2@example.com") (gives (ascii "e=mc2@example.com"))
+    ∷ row (isXtext "+3d") refused
+    -- "P QUIT while an answer is awaited is three octets for the service."
+    ∷ row (smtp "QUIT") (asks 3 (0x41 ∷ 0x42 ∷ 0x13 ∷ []))
+    ∷ row (pop3 "QUIT") (asks 3 (0x41 ∷ 0x42 ∷ 0x13 ∷ []))
+    -- "P mechanism names: 20 letters pass, 21 do not."
+    ∷ row (isMechanism "ABCDEFGHIJKLMNOPQRST") taken
+    ∷ row (isMechanism "ABCDEFGHIJKLMNOPQRSTU") refused
+    ∷ []
+
+-- the claim: every row's input comes to what is expected
+abbrev pub Cases : Type 0
+Cases = map (λ (r : Row). outcome (r .input)) cases ≡ map (λ (r : Row). r .expected) cases

@@ -1,0 +1,172 @@
+-- What holds of every session after a verdict, case by case. Assumes nothing.
+use mathlib.Core.Path.{_≡_, refl, sym, _∙_, ap}
+use mathlib.Core.Bool.{Bool, true, false, cond, _&&_, false≢true}
+use mathlib.Core.List.{List}
+use mathlib.Core.Option.{none, some}
+use Prim.Native.Nat.{ℕ, _+_, _≤_}
+use native.Mathlib.Omega.{arith}
+use borrow.Author.Tests.{leb-true, le-leb, ltb-true}
+use lib.Dec.{leb, ltb, eqb}
+use lib.ListN.{length, replicate}
+use Rattle.octets.specs.Lists.{every, same, paddedTo}
+use Rattle.octets.proofs.Cases.{both}
+use Rattle.octets.proofs.Padded.{before-padded}
+use Rattle.octets.proofs.Words.{same-refl}
+use Rattle.profile.specs.declared.Reply.{Reply}
+use Rattle.profile.specs.declared.Reply.the-variants as Replies
+use Rattle.profile.specs.declared.numbers.Refusal.{Refusal}
+use Rattle.profile.specs.declared.numbers.Refusal.the-variants as Refusals
+use Rattle.profile.specs.declared.numbers.Verdict.{Verdict}
+use Rattle.profile.specs.declared.numbers.Verdict.the-variants as Verdicts
+use Rattle.lines.proofs.Lists.{not-held}
+use Rattle.session.specs.declared.Phase.{Phase}
+use Rattle.session.specs.declared.Phase.the-variants as Phases
+use Rattle.session.specs.declared.Session.{Session}
+use Rattle.session.specs.declared.Stepped.{Stepped}
+use Rattle.session.specs.declared.answer.Answer.the-variants as Answers
+use Rattle.session.specs.Session.{signedIn, nameOf, named}
+use Rattle.session.specs.Change.{moves, fails, refuses, stepped}
+use Rattle.session.specs.Verdict.{graphic, isName, given, challenged, accepted, onVerdict, onTicket, afterVerdict}
+use Rattle.session.specs.Standing.{standing, stands, isRefused}
+use Rattle.session.specs.Named.{bears, waitsOn, isSuccess, grants}
+use Rattle.session.specs.WellFormed.{sentWithin, nameWithin, wellFormed}
+
+-- a name that is kept in 64 octets is read back
+pub name-kept : (s : Session) (n : List ℕ) → isName n ≡ true → nameOf (named s n) ≡ n
+unfolding isName nameOf
+name-kept s n h =
+    let k = both (leb 1 (length n) && leb (length n) 64) (every graphic n) h in
+    before-padded 64 n (leb-true (length n) 64 (both (leb 1 (length n)) (leb (length n) 64) (k .0) .1)) (not-held graphic 0 n refl (k .1))
+
+pub record Judged (s : Session) (g : Bool) (d : List ℕ) (r : Stepped) : Type 0 where
+  -- how the session stands after it is told by the answer
+  pub stands : standing (r .session .phase) ≡ stands (standing (s .phase)) (r .answer)
+  -- a refusal changes nothing
+  pub refused : isRefused (r .answer) ≡ true → r .session ≡ s
+  -- whom the session bears: g, whether the verdict signs somebody in
+  pub borne : bears (r .session) ≡ cond g (some d) (bears s)
+  -- all but the name and the phase stay; the name too where nobody is signed in
+  pub greeted : r .session .greeted ≡ s .greeted
+  pub transaction : r .session .transaction ≡ s .transaction
+  pub profile : r .session .profile ≡ s .profile
+  pub protected : r .session .protected ≡ s .protected
+  pub name : g ≡ false → r .session .name ≡ s .name
+  pub within : wellFormed s ≡ true → wellFormed (r .session) ≡ true
+
+module _ (s : Session) (d : List ℕ) where
+  refusing : (r : Refusal) → Judged s false d (stepped s (refuses s r))
+  refusing r =
+      record {
+        stands = refl;
+        refused = λ e. refl;
+        borne = refl;
+        greeted = refl;
+        transaction = refl;
+        profile = refl;
+        protected = refl;
+        name = λ e. refl;
+        within = λ e. e;
+      }
+
+  module _ (t k : ℕ) (e : s .phase ≡ Phases.Waiting t k) where
+    nobody : bears s ≡ none
+    nobody = ap (λ (p : Phase). cond (signedIn p) (some (nameOf s)) none) e
+
+    -- the fields of a session that waits, in what it is next
+    sent : wellFormed s ≡ true → leb k 16 ≡ true
+    sent w = sym (ap sentWithin e) ∙ both (sentWithin (s .phase)) (nameWithin s) w .0
+
+    blank : wellFormed s ≡ true → same (s .name) (replicate 64 0) ≡ true
+    unfolding nameWithin
+    blank w =
+        sym (ap (λ (p : Phase). cond (signedIn p) (isName (nameOf s) && same (s .name) (paddedTo 64 (nameOf s))) (same (s .name) (replicate 64 0))) e)
+        ∙ both (sentWithin (s .phase)) (nameWithin s) w .1
+
+    failing : (r : Reply) → Judged s false d (stepped s (fails s r))
+    unfolding nameWithin
+    failing r =
+        record {
+          stands = refl;
+          refused = λ f. absurd (false≢true f);
+          borne = sym nobody;
+          greeted = refl;
+          transaction = refl;
+          profile = refl;
+          protected = refl;
+          name = λ f. refl;
+          within = blank;
+        }
+
+    challenging : Judged s false d (stepped s (challenged s k))
+    unfolding nameWithin
+    challenging = go (ltb k 16) refl
+      where
+        go : (b : Bool) → ltb k 16 ≡ b → Judged s false d (stepped s (cond b (moves s (Phases.Awaiting (k + 1)) Answers.Challenge) (fails s Replies.Temporary)))
+        go true h =
+            let z : k + 1 ≤ 16 = omega (arith, ltb-true k 16 h) in
+            record {
+              stands = refl;
+              refused = λ f. absurd (false≢true f);
+              borne = sym nobody;
+              greeted = refl;
+              transaction = refl;
+              profile = refl;
+              protected = refl;
+              name = λ f. refl;
+              within = λ w. rw (le-leb (k + 1) 16 z) (blank w);
+            }
+        go false h = failing Replies.Temporary
+
+    granting : isName d ≡ true → Judged s true d (accepted s k Verdicts.Success d)
+    unfolding nameWithin nameOf
+    granting h =
+        record {
+          stands = refl;
+          refused = λ f. absurd (false≢true f);
+          borne = ap some (name-kept s d h);
+          greeted = refl;
+          transaction = refl;
+          profile = refl;
+          protected = refl;
+          name = λ f. absurd (false≢true (sym f));
+          within = λ w. rw (name-kept s d h, h, same-refl (paddedTo 64 d));
+        }
+
+    judging : (v : Verdict) → given v d ≡ true → Judged s (isSuccess v && isName d) d (accepted s k v d)
+    judging Verdicts.Challenge h = challenging
+    judging Verdicts.Success h = rw h (granting h)
+    judging Verdicts.Rejected h = failing Replies.Rejected
+    judging Verdicts.Temporary h = failing Replies.Temporary
+    judging Verdicts.Transition h = failing Replies.Transition
+    judging Verdicts.Weak h = failing Replies.Weak
+
+  -- data that are not in order sign nobody in
+  ungranted : (v : Verdict) → given v d ≡ false → (isSuccess v && isName d) ≡ false
+  ungranted Verdicts.Challenge h = refl
+  ungranted Verdicts.Success h = h
+  ungranted Verdicts.Rejected h = refl
+  ungranted Verdicts.Temporary h = refl
+  ungranted Verdicts.Transition h = refl
+  ungranted Verdicts.Weak h = refl
+
+  deciding : (t k : ℕ) → s .phase ≡ Phases.Waiting t k → (v : Verdict) → Judged s (isSuccess v && isName d) d (onVerdict s k v d)
+  unfolding onVerdict
+  deciding t k e v = go (given v d) refl
+    where
+      go : (b : Bool) → given v d ≡ b → Judged s (isSuccess v && isName d) d (cond b (accepted s k v d) (stepped s (refuses s Refusals.NotListed)))
+      go true h = judging t k e v h
+      go false h = rw (ungranted v h) (refusing Refusals.NotListed)
+
+  pub verdicts : (t : ℕ) (v : Verdict) → Judged s (grants s t v d) d (afterVerdict s t v d)
+  unfolding grants afterVerdict
+  verdicts t v = go (s .phase) refl
+    where
+      asked : (b : Bool) (k u : ℕ) → s .phase ≡ Phases.Waiting u k → Judged s (b && isSuccess v && isName d) d (cond b (onVerdict s k v d) (stepped s (refuses s Refusals.NoTicket)))
+      asked true k u e = deciding u k e v
+      asked false k u e = refusing Refusals.NoTicket
+
+      go : (p : Phase) → s .phase ≡ p → Judged s (waitsOn t p && isSuccess v && isName d) d (onTicket p s t v d)
+      go Phases.Idle e = refusing Refusals.NoTicket
+      go Phases.SignedIn e = refusing Refusals.NoTicket
+      go (Phases.Awaiting k) e = refusing Refusals.NoTicket
+      go (Phases.Waiting u k) e = asked (eqb u t) k u e

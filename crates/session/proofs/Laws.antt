@@ -1,0 +1,132 @@
+-- The laws of a session's steps. Assumes nothing.
+use mathlib.Core.Path.{_≡_, refl, ap}
+use mathlib.Core.Bool.{Bool, true, cond}
+use mathlib.Core.List.{List}
+use mathlib.Core.Option.{none, some}
+use Prim.Native.Nat.{ℕ, _≤_}
+use native.Mathlib.Omega.{arith}
+use lib.ListN.{length, replicate, length-append}
+use Rattle.octets.specs.Lists.{same}
+use Rattle.octets.proofs.Cases.{both}
+use Rattle.octets.proofs.Words.{same-refl}
+use Rattle.base64.proofs.Laws.{length-encode}
+use Rattle.profile.specs.Texts.{isChallenge}
+use Rattle.profile.specs.declared.Profile.{Profile}
+use Rattle.profile.specs.declared.Profile.the-variants.{Smtp, Pop3}
+use Rattle.profile.specs.declared.numbers.Verdict.{Verdict}
+use Rattle.profile.proofs.Laws.{not-challenge, challenge-begins, reply-length}
+use Rattle.session.specs.declared.Session.{Session}
+use Rattle.session.specs.declared.answer.Answer.{Answer}
+use Rattle.session.specs.declared.answer.Answer.the-variants as Answers
+use Rattle.session.specs.declared.view.Offer.{Offer}
+use Rattle.session.specs.declared.view.View.{View}
+use Rattle.session.specs.Session.{opened, nameOf}
+use Rattle.session.specs.Answer.{challenge, heard, isChallengeAnswer}
+use Rattle.session.specs.Line.{afterLine}
+use Rattle.session.specs.Verdict.{afterVerdict}
+use Rattle.session.specs.MailEnded.{afterMail}
+use Rattle.session.specs.Standing.{quiet, standing, stands, isRefused}
+use Rattle.session.specs.Named.{bears, grants}
+use Rattle.session.specs.WellFormed.{sentWithin, nameWithin, wellFormed}
+use Rattle.session.proofs.Sound.{lining}
+use Rattle.session.proofs.Judged.{verdicts}
+-- a step depends on the view of a line alone, and views tell nothing of a response but its shape
+pub use Rattle.session.proofs.Views.{same-response-view, same-initial-view}
+-- what an answer says of a line's octets is so
+pub use Rattle.session.proofs.Measures.{line-measures}
+-- "A failed exchange leaves greeting, transaction and name as they were before AUTH."
+pub use Rattle.session.proofs.Exchanges.{failed-keeps}
+-- a name that was kept is read back
+pub use Rattle.session.proofs.Judged.{name-kept}
+
+module _ (s : Session) (v : View) (o : Offer) (t : ℕ) where
+  -- a session awaits a response exactly after a challenge, and waits on a ticket exactly after a query under it
+  pub line-stands : standing (afterLine s v o t .session .phase) ≡ stands (standing (s .phase)) (afterLine s v o t .answer)
+  unfolding afterLine
+  line-stands = lining s v o t .stands
+
+  -- a refusal changes nothing
+  pub line-refused : isRefused (afterLine s v o t .answer) ≡ true → afterLine s v o t .session ≡ s
+  unfolding afterLine
+  line-refused e = lining s v o t .refused e
+
+  -- no line alters whom the session bears, nor what it was opened with
+  pub line-bears : bears (afterLine s v o t .session) ≡ bears s
+  unfolding afterLine nameOf
+  line-bears = ap (λ (b : Bool). cond b (some (nameOf s)) none) (lining s v o t .signed)
+
+  pub line-opened : (afterLine s v o t .session .profile ≡ s .profile) × (afterLine s v o t .session .protected ≡ s .protected)
+  unfolding afterLine
+  line-opened = (refl, refl)
+
+  pub line-within : wellFormed s ≡ true → wellFormed (afterLine s v o t .session) ≡ true
+  unfolding afterLine nameWithin nameOf
+  line-within w =
+      let l = lining s v o t in
+      let h = both (sentWithin (s .phase)) (nameWithin s) w in
+      rw (l .sent (h .0), l .signed) (h .1)
+
+module _ (s : Session) (t : ℕ) (v : Verdict) (d : List ℕ) where
+  pub verdict-stands : standing (afterVerdict s t v d .session .phase) ≡ stands (standing (s .phase)) (afterVerdict s t v d .answer)
+  verdict-stands = verdicts s d t v .stands
+
+  pub verdict-refused : isRefused (afterVerdict s t v d .answer) ≡ true → afterVerdict s t v d .session ≡ s
+  verdict-refused e = verdicts s d t v .refused e
+
+  -- only a success verdict with a name signs somebody in, under that name, and only where the session waits on its ticket
+  pub verdict-bears : bears (afterVerdict s t v d .session) ≡ cond (grants s t v d) (some d) (bears s)
+  verdict-bears = verdicts s d t v .borne
+
+  pub verdict-opened : (afterVerdict s t v d .session .profile ≡ s .profile) × (afterVerdict s t v d .session .protected ≡ s .protected)
+  verdict-opened = let j = verdicts s d t v in (j .profile, j .protected)
+
+  pub verdict-within : wellFormed s ≡ true → wellFormed (afterVerdict s t v d .session) ≡ true
+  verdict-within w = verdicts s d t v .within w
+
+-- the end of a transaction alters nothing else
+module _ (s : Session) where
+  pub mail-stands : standing (afterMail s .phase) ≡ standing (s .phase)
+  mail-stands = refl
+
+  pub mail-bears : bears (afterMail s) ≡ bears s
+  unfolding nameOf
+  mail-bears = refl
+
+  pub mail-within : wellFormed s ≡ true → wellFormed (afterMail s) ≡ true
+  unfolding nameWithin nameOf
+  mail-within w = w
+
+-- a connection is opened with nobody signed in and no exchange
+module _ (p : Profile) (b : Bool) where
+  pub opened-stands : standing (opened p b .phase) ≡ quiet
+  opened-stands = refl
+
+  pub opened-bears : bears (opened p b) ≡ none
+  opened-bears = refl
+
+  pub opened-within : wellFormed (opened p b) ≡ true
+  unfolding nameWithin
+  opened-within = same-refl (replicate 64 0)
+
+-- what the client hears begins like a challenge exactly where it is one
+module _ (p : Profile) (d : List ℕ) where
+  pub heard-challenge : (a : Answer) → isChallenge (heard p d a) ≡ isChallengeAnswer a
+  unfolding heard
+  heard-challenge (Answers.Refused r) = unfold isChallenge same in refl
+  heard-challenge (Answers.Forward i n) = unfold isChallenge same in refl
+  heard-challenge (Answers.Query t b n) = unfold isChallenge same in refl
+  heard-challenge (Answers.Reply e) = not-challenge p e
+  heard-challenge Answers.Challenge = challenge-begins p _
+
+  -- and fits "a reply buffer (at least 12,288 octets)"
+  challenge-fits : (p : Profile) → length d ≤ 9210 → length (challenge p d) ≤ 12288
+  challenge-fits Smtp h = simp (length-append, length-encode) (omega arith)
+  challenge-fits Pop3 h = simp (length-append, length-encode) (omega arith)
+
+  pub heard-fits : (a : Answer) → length d ≤ 9210 → length (heard p d a) ≤ 12288
+  unfolding heard
+  heard-fits (Answers.Refused r) h = omega arith
+  heard-fits (Answers.Forward i n) h = omega arith
+  heard-fits (Answers.Query t b n) h = omega arith
+  heard-fits (Answers.Reply e) h = omega (arith, reply-length p e)
+  heard-fits Answers.Challenge h = challenge-fits p h

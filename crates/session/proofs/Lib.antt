@@ -1,0 +1,8 @@
+-- What the proofs of session share, and its laws.
+pub mod Steps
+pub mod Sound
+pub mod Judged
+pub mod Views
+pub mod Measures
+pub mod Exchanges
+pub mod Laws

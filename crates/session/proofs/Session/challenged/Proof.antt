@@ -1,0 +1,14 @@
+use borrow.Author.Tests.{lt-ltb, le-ltb}
+use borrow.Author.Needs.{needs}
+use Rattle.session.proofs.Session.challenged.Statement.{statement}
+use Rattle.session.proofs.Session.challenged.Tie as tie
+
+pub challenged-spec : {M : Type 1} → statement M
+challenged-spec =
+    tie.close
+    (tie.spec
+    (λ c. search needs)
+    (λ c κs. search needs)
+    (λ c κs. search needs)
+    (λ c. rw (lt-ltb _ _ (c .before .if1 .taken)) (c .moves .ensures))
+    (λ c. rw (le-ltb _ _ (c .before .if1 .left)) (c .fails .ensures)))

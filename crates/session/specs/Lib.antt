@@ -1,0 +1,19 @@
+-- The definitions that the promises of session cite.
+pub mod Session
+pub mod View
+pub mod Octets
+pub mod Answer
+pub mod Change
+pub mod Query
+pub mod Auth
+pub mod Mail
+pub mod Command
+pub mod Response
+pub mod Line
+pub mod Verdict
+pub mod MailEnded
+pub mod Standing
+pub mod Named
+pub mod WellFormed
+pub mod Measures
+pub mod Exchange
