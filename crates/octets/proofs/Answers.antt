@@ -7,12 +7,13 @@ use native.Mathlib.Nat.{zero-add}
 use native.Mathlib.Omega.{arith}
 use borrow.Author.Tests.{le-leb, lt-leb}
 use lib.Dec.{leb}
-use lib.ListN.{length, take, drop}
+use lib.ListN.{length, take, drop, length-append}
 use lib.Seq.{sets, sets-eq, length-sets}
 use Rattle.octets.specs.Answers.{written, measured, decoded, decodedInto, encoded}
 use Rattle.octets.specs.declared.Measured.{Measured}
 use Rattle.octets.specs.declared.Decoded.{Decoded}
 use Rattle.octets.specs.declared.Encoded.{Encoded}
+use Rattle.octets.proofs.Lists.{sets-append}
 
 -- what a write changes: the octets from `at` on, as many as are written, and nothing else
 pub written-is : (o : List ℕ) (at : ℕ) (l : List ℕ) → at + length l ≤ length o → written o at l ≡ take at o ++ l ++ drop (at + length l) o
@@ -24,6 +25,14 @@ length-written o at l = go (leb (at + length l) (length o))
     go : (b : Bool) → length (cond b (sets o at l) o) ≡ length o
     go true = length-sets o at l
     go false = refl
+
+-- a write in two parts
+pub written-append : (o : List ℕ) (at : ℕ) (u v : List ℕ) → at + length (u ++ v) ≤ length o → written (written o at u) (at + length u) v ≡ written o at (u ++ v)
+written-append o at u v h =
+    let w : at + length u + length v ≤ length o = omega (arith, length-append u v) in
+    let x : at + length u ≤ length o = omega arith in
+    let y : at + length u + length v ≤ length (sets o at u) = omega (arith, length-sets o at u) in
+    rw (le-leb _ _ x, le-leb _ _ y, le-leb _ _ h) (sym (sets-append o at u v))
 
 -- the measure of a text of which n octets are read and the rest stands for l: what a loop keeps equal
 abbrev pub resumed : ℕ → Bool → List ℕ → Measured

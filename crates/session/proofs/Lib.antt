@@ -2,6 +2,7 @@
 pub mod Steps
 pub mod Sound
 pub mod Judged
+pub mod Challenges
 pub mod Views
 pub mod Measures
 pub mod Exchanges

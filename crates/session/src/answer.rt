@@ -1,6 +1,11 @@
-// What a step gives, and its numbers.
+// What a step gives: its numbers, and what the client hears.
 ghost use mathlib.Core.Path.{_≡_};
-ghost use Rattle.session.specs.Answer.{bit, refusedNumbers, forwardNumbers, queryNumbers, replyNumbers, numbers};
+ghost use lib.ListN.{length};
+ghost use Rattle.octets.specs.Answers.{written, encoded};
+ghost use Rattle.profile.specs.Texts.{challengePrefix};
+ghost use Rattle.session.specs.Answer.{bit, refusedNumbers, forwardNumbers, queryNumbers, replyNumbers, numbers, challenge, heard};
+use octets::Encoded;
+use profile::Profile;
 use profile::Reply;
 use profile::numbers::Identity;
 use profile::numbers::Kind;
@@ -93,7 +98,45 @@ fn bit(yes: bool) -> u64
     if yes { 1 } else { 0 }
 }
 
+// The octets that a challenge begins with.
+fn prefix_octets(profile: Profile) -> usize
+    ensures { λ r. ⌜ r ≡ length (challengePrefix profile) ⌝ }
+{
+    match profile {
+        Profile::Smtp => 4,
+        Profile::Pop3 => 2,
+    }
+}
+
+// Writes a challenge to the start of out. Its length is known first, so that out is left as it is where it does not fit.
+fn write_challenge(profile: Profile, bytes: &[u8], out: &mut [u8]) -> Encoded
+    ensures { λ r. ⌜ (r ≡ encoded (challenge profile (now (bytes .entry))) (length (now (out .entry))) 0) × (now (out .exit) ≡ written (now (out .entry)) 0 (challenge profile (now (bytes .entry)))) ⌝ }
+{
+    let from = prefix_octets(profile);
+    let to = from + (bytes.len() + 2) / 3 * 4;
+    if out.len() < to + 2 {
+        return Encoded::Short;
+    }
+    profile.begin_challenge(out);
+    base64::encode(bytes, out, from);
+    profile::end_line(out, to)
+}
+
 impl Answer {
+    // Writes what the client hears to the start of out: nothing, the text of an event, or a challenge of these octets. Where it does not
+    // fit, out is left as it is.
+    pub fn say(self, profile: Profile, bytes: &[u8], out: &mut [u8]) -> Encoded
+        ensures { λ r. ⌜ (r ≡ encoded (heard profile (now (bytes .entry)) self) (length (now (out .entry))) 0) × (now (out .exit) ≡ written (now (out .entry)) 0 (heard profile (now (bytes .entry)) self)) ⌝ }
+    {
+        match self {
+            Answer::Refused(_) => octets::write(b"", out, 0),
+            Answer::Forward { .. } => octets::write(b"", out, 0),
+            Answer::Query { .. } => octets::write(b"", out, 0),
+            Answer::Reply(event) => profile.say(event, out),
+            Answer::Challenge => write_challenge(profile, bytes, out),
+        }
+    }
+
     // The numbers of an answer; of a reply, with the length of what the client hears.
     pub fn numbers(self, heard: usize) -> Numbers
         ensures { λ r. ⌜ r ≡ numbers self heard ⌝ }

@@ -1,6 +1,17 @@
-// What a session's step is handed of a line.
+// What a session's step is handed of a line, and what the line hands on.
+ghost use mathlib.Core.Path.{_≡_};
+ghost use lib.ListN.{length};
+ghost use Rattle.base64.specs.Base64 as Base64;
+ghost use Rattle.xtext.specs.Xtext as Xtext;
+ghost use Rattle.lines.specs.Mechanism.{padded};
+ghost use Rattle.session.specs.Octets.{authIn, mailIn, mechanismText, responseText, relayText};
+use lines::auth::Auth;
+use lines::auth::decode_initial;
+use lines::auth::name_at;
 use lines::command::Command;
 use lines::response::Response;
+use mail::Mail;
+use octets::Decoded;
 
 // A line as a session sees it, with where things stand and how long they decode to, and no octets: a command where no exchange runs, a
 // response where one is awaited. While a ticket waits a line is not read.
@@ -17,4 +28,75 @@ pub enum Offer {
         client_first: bool,
         needs_protection: bool,
     },
+}
+
+// The AUTH line that a command is; any other is taken for a malformed one.
+fn auth_in(command: Command) -> Auth
+    ensures { λ r. ⌜ r ≡ authIn command ⌝ }
+{
+    match command {
+        Command::NotUnderstood => Auth::Malformed,
+        Command::Malformed => Auth::Malformed,
+        Command::Ehlo => Auth::Malformed,
+        Command::Helo => Auth::Malformed,
+        Command::Rset => Auth::Malformed,
+        Command::Quit => Auth::Malformed,
+        Command::Mail(_) => Auth::Malformed,
+        Command::Auth(auth) => auth,
+        Command::Barred => Auth::Malformed,
+        Command::Other => Auth::Malformed,
+    }
+}
+
+// The MAIL line that a command is, likewise.
+fn mail_in(command: Command) -> Mail
+    ensures { λ r. ⌜ r ≡ mailIn command ⌝ }
+{
+    match command {
+        Command::NotUnderstood => Mail::Malformed,
+        Command::Malformed => Mail::Malformed,
+        Command::Ehlo => Mail::Malformed,
+        Command::Helo => Mail::Malformed,
+        Command::Rset => Mail::Malformed,
+        Command::Quit => Mail::Malformed,
+        Command::Mail(mail) => mail,
+        Command::Auth(_) => Mail::Malformed,
+        Command::Barred => Mail::Malformed,
+        Command::Other => Mail::Malformed,
+    }
+}
+
+impl View {
+    // The mechanism that the line names, in twenty octets; NUL alone where it names none.
+    pub fn mechanism(self, line: &[u8]) -> [u8; 20]
+        ensures { λ r. ⌜ r ≡ padded (mechanismText self (now (line .entry))) ⌝ }
+    {
+        match self {
+            View::Command(command) => name_at(line, auth_in(command)),
+            View::Response(_) => name_at(line, Auth::Malformed),
+            View::Unread => name_at(line, Auth::Malformed),
+        }
+    }
+
+    // Decodes the response that the line has to the start of out.
+    pub fn decode_response(self, line: &[u8], out: &mut [u8]) -> Decoded
+        ensures { λ r. ⌜ (r ≡ Base64.decoded (responseText self (now (line .entry))) (length (now (out .entry)))) × (now (out .exit) ≡ Base64.decodedInto (responseText self (now (line .entry))) (now (out .entry))) ⌝ }
+    {
+        match self {
+            View::Command(command) => decode_initial(line, auth_in(command), out),
+            View::Response(_) => base64::decode(line, out),
+            View::Unread => decode_initial(line, Auth::Malformed, out),
+        }
+    }
+
+    // Decodes the address that the line has to the start of out.
+    pub fn decode_address(self, line: &[u8], out: &mut [u8]) -> Decoded
+        ensures { λ r. ⌜ (r ≡ Xtext.decoded (relayText self (now (line .entry))) (length (now (out .entry)))) × (now (out .exit) ≡ Xtext.decodedInto (relayText self (now (line .entry))) (now (out .entry))) ⌝ }
+    {
+        match self {
+            View::Command(command) => mail::decode_address(line, mail_in(command), out),
+            View::Response(_) => mail::decode_address(line, Mail::Malformed, out),
+            View::Unread => mail::decode_address(line, Mail::Malformed, out),
+        }
+    }
 }

@@ -1,3 +1,4 @@
+use native.Mathlib.Omega.{arith}
 use borrow.Author.Tests.{lt-ltb, le-ltb}
 use borrow.Author.Needs.{needs}
 use Rattle.session.proofs.Session.challenged.Statement.{statement}
@@ -10,5 +11,5 @@ challenged-spec =
     (λ c. search needs)
     (λ c κs. search needs)
     (λ c κs. search needs)
-    (λ c. rw (lt-ltb _ _ (c .before .if1 .taken)) (c .moves .ensures))
-    (λ c. rw (le-ltb _ _ (c .before .if1 .left)) (c .fails .ensures)))
+    (λ c. rw (lt-ltb (c .before .before .args .sent) 16 (omega arith)) (c .moves .ensures))
+    (λ c. rw (le-ltb (c .before .before .args .sent) 16 (omega arith)) (c .fails .ensures)))

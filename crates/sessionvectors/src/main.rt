@@ -1,0 +1,10 @@
+// Dialogues, run through a session's steps. What they must print is in the file stdout, which expected.py makes from the papers.
+mod dialogues;
+mod run;
+mod show;
+
+fn main() {
+    dialogues::smtp();
+    dialogues::pop3();
+    dialogues::unreached();
+}
