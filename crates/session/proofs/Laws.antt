@@ -28,10 +28,11 @@ use Rattle.session.specs.MailEnded.{afterMail}
 use Rattle.session.specs.Standing.{quiet, standing, stands, isRefused}
 use Rattle.session.specs.Named.{bears, grants}
 use Rattle.session.specs.WellFormed.{sentWithin, nameWithin, wellFormed}
-use Rattle.session.proofs.Sound.{lining}
+use Rattle.session.proofs.Makes.{makes}
+use Rattle.session.proofs.Sound.{sound}
 use Rattle.session.proofs.Judged.{verdicts}
 -- a step depends on the view of a line alone, and views tell nothing of a response but its shape
-pub use Rattle.session.proofs.Views.{same-response-view, same-initial-view}
+pub use Rattle.session.proofs.Views.{same-response-view, same-initial-view, same-initial-mechanism}
 -- what an answer says of a line's octets is so
 pub use Rattle.session.proofs.Measures.{line-measures}
 -- "A failed exchange leaves greeting, transaction and name as they were before AUTH."
@@ -43,17 +44,17 @@ module _ (s : Session) (v : View) (o : Offer) (t : ℕ) where
   -- a session awaits a response exactly after a challenge, and waits on a ticket exactly after a query under it
   pub line-stands : standing (afterLine s v o t .session .phase) ≡ stands (standing (s .phase)) (afterLine s v o t .answer)
   unfolding afterLine
-  line-stands = lining s v o t .stands
+  line-stands = sound (makes s t v o) .stands
 
   -- a refusal changes nothing
   pub line-refused : isRefused (afterLine s v o t .answer) ≡ true → afterLine s v o t .session ≡ s
   unfolding afterLine
-  line-refused e = lining s v o t .refused e
+  line-refused e = sound (makes s t v o) .refused e
 
   -- no line alters whom the session bears, nor what it was opened with
   pub line-bears : bears (afterLine s v o t .session) ≡ bears s
   unfolding afterLine nameOf
-  line-bears = ap (λ (b : Bool). cond b (some (nameOf s)) none) (lining s v o t .signed)
+  line-bears = ap (λ (b : Bool). cond b (some (nameOf s)) none) (sound (makes s t v o) .signed)
 
   pub line-opened : (afterLine s v o t .session .profile ≡ s .profile) × (afterLine s v o t .session .protected ≡ s .protected)
   unfolding afterLine
@@ -62,7 +63,7 @@ module _ (s : Session) (v : View) (o : Offer) (t : ℕ) where
   pub line-within : wellFormed s ≡ true → wellFormed (afterLine s v o t .session) ≡ true
   unfolding afterLine nameWithin nameOf
   line-within w =
-      let l = lining s v o t in
+      let l = sound (makes s t v o) in
       let h = both (sentWithin (s .phase)) (nameWithin s) w in
       rw (l .sent (h .0), l .signed) (h .1)
 

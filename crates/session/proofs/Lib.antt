@@ -1,5 +1,6 @@
 -- What the proofs of session share, and its laws.
 pub mod Steps
+pub mod Makes
 pub mod Sound
 pub mod Judged
 pub mod Challenges

@@ -1,19 +1,18 @@
 -- What an answer says of a line's octets is so. Assumes nothing.
-use mathlib.Core.Path.{_≡_, refl, sym}
-use mathlib.Core.Bool.{Bool, true, false, cond}
+use mathlib.Core.Path.{_≡_, refl, sym, _∙_}
+use mathlib.Core.Bool.{true}
 use mathlib.Core.List.{List}
+use mathlib.Core.Option.{Option, none, some}
 use Prim.Native.Nat.{ℕ, _≤_}
 use native.Mathlib.Omega.{arith}
-use lib.Dec.{eqb}
 use lib.ListN.{length}
 use Rattle.base64.specs.Base64
+use Rattle.xtext.specs.Xtext
 use Rattle.profile.specs.Limits.{commandLimit, mailLimit}
 use Rattle.profile.specs.declared.Profile.{Profile}
 use Rattle.profile.specs.declared.Profile.the-variants.{Smtp, Pop3}
-use Rattle.profile.specs.declared.Reply.the-variants as Replies
 use Rattle.profile.specs.declared.numbers.Identity.{Identity}
 use Rattle.profile.specs.declared.numbers.Identity.the-variants as Identities
-use Rattle.profile.specs.declared.numbers.Refusal.the-variants as Refusals
 use Rattle.mail.specs.Mail.{mail}
 use Rattle.mail.specs.declared.Mail.{Mail}
 use Rattle.mail.specs.declared.Mail.the-variants as Mails
@@ -31,106 +30,98 @@ use Rattle.lines.proofs.Laws.{initial-read, initial-fits, response-read, Holds,
 use Rattle.session.specs.declared.Phase.{Phase}
 use Rattle.session.specs.declared.Phase.the-variants as Phases
 use Rattle.session.specs.declared.Session.{Session}
-use Rattle.session.specs.declared.answer.Answer.the-variants as Answers
 use Rattle.session.specs.declared.change.Change.{Change}
 use Rattle.session.specs.declared.view.Offer.{Offer}
 use Rattle.session.specs.declared.view.View.{View}
 use Rattle.session.specs.declared.view.View.the-variants as Views
-use Rattle.session.specs.Session.{signedIn}
 use Rattle.session.specs.View.{viewIn, view}
-use Rattle.session.specs.Octets.{responseText, queryOctets, relayOctets}
-use Rattle.session.specs.Change.{moves, says, refuses}
-use Rattle.session.specs.Query.{unissued, asks}
-use Rattle.session.specs.Auth.{wrongMoment, available, clientFirst, alone, withInitial, timely, onAuth}
-use Rattle.session.specs.Mail.{relayed, begins, onMail}
-use Rattle.session.specs.Command.{onCommand}
-use Rattle.session.specs.Response.{onResponse}
-use Rattle.session.specs.Line.{onLine, afterLine}
+use Rattle.session.specs.Octets.{responseText, queryOctets, relayText, relayOctets}
+use Rattle.session.specs.Line.{afterLine}
 use Rattle.session.specs.Measures.{Relays, Measures}
+use Rattle.session.proofs.Makes.{responseLength, addressLength, Told, Makes, refused, replied, failed, forwarded, challenged, asked, makes}
 
--- whichever a test picks
-either : (v : View) (l : List ℕ) (t : ℕ) (b : Bool) (c d : Change) → Measures v l t (c .answer) → Measures v l t (d .answer) → Measures v l t (cond b c d .answer)
-either v l t true c d h k = h
-either v l t false c d h k = k
+-- the lengths that a view of the line l tells
+abbrev Responds : List ℕ → View → Type 0
+Responds l v = (n : ℕ) → responseLength v ≡ some n → (Base64.valid (responseText v l) ≡ true) × (n ≡ length (queryOctets v l)) × (n ≤ 9213)
 
-module _ (s : Session) (l : List ℕ) (t : ℕ) where
-  asking : (v : View) (k : ℕ) (b : Bool) (n : ℕ) → (Base64.valid (responseText v l) ≡ true) × (n ≡ length (queryOctets v l)) × (n ≤ 9213) → Measures v l t (asks s t k b n .answer)
-  asking v k b n h = either v l t (eqb t unissued) (refuses s Refusals.Exhausted) (moves s (Phases.Waiting t k) (Answers.Query t b n)) tt (refl, h .0, h .1, h .2)
+abbrev Relayed : List ℕ → View → Type 0
+Relayed l v = (n : ℕ) → addressLength v ≡ some n → (Xtext.valid (relayText v l) ≡ true) × (n ≡ length (relayOctets v l)) × (n ≤ 9213)
 
-  initial : (p : Profile) (a : Auth) (o : Offer) → a ≡ auth l → length l ≤ commandLimit p → Measures (Views.Command (Commands.Auth a)) l t (timely s a o t .answer)
+never : {n : ℕ} → _≡_ {A = Option ℕ} none (some n) → ⊥
+never e = let z : _≡_ {A = ℕ} 0 1 = cc in omega arith
+
+some-same : {m n : ℕ} → some m ≡ some n → m ≡ n
+some-same e = cc
+
+module _ (l : List ℕ) where
+  initial : (p : Profile) (a : Auth) → a ≡ auth l → length l ≤ commandLimit p → Responds l (Views.Command (Commands.Auth a))
   unfolding queryOctets
-  initial p Auths.Malformed o e h = tt
-  initial p (Auths.Alone to) o e h =
-      let v = Views.Command (Commands.Auth (Auths.Alone to)) in
-      either v l t (available s o) (alone s o t) (says s Replies.Unavailable)
-      (either v l t (clientFirst o) (moves s (Phases.Awaiting 1) Answers.Challenge) (asks s t 0 true 0) tt (asking v 0 true 0 (unfold Base64.valid in refl, unfold Base64.octets in refl, omega arith)))
-      tt
-  initial p (Auths.Initial to from n) o e h =
-      let v = Views.Command (Commands.Auth (Auths.Initial to from n)) in
-      let r = initial-read l to from n (sym e) in
-      let z : n ≤ 9213 = within p h in
-      either v l t (available s o) (withInitial s o n t) (says s Replies.Unavailable)
-      (either v l t (clientFirst o) (asks s t 0 false n) (says s Replies.InitialResponse) (asking v 0 false n (r .0, r .1, z)) tt)
-      tt
+  initial p Auths.Malformed e h n f = absurd (never f)
+  initial p (Auths.Alone to) e h n f = rw (← (some-same f)) (unfold Base64.valid in refl, unfold Base64.octets in refl, omega arith)
+  initial p (Auths.Initial to from m) e h n f =
+      let r = initial-read l to from m (sym e) in
+      rw (← (some-same f)) (r .0, r .1, within p h)
     where
-      within : (p : Profile) → length l ≤ commandLimit p → n ≤ 9213
-      within Smtp k = omega (arith, initial-fits l to from n (sym e))
-      within Pop3 k = omega (arith, initial-fits l to from n (sym e))
+      within : (p : Profile) → length l ≤ commandLimit p → m ≤ 9213
+      within Smtp k = omega (arith, initial-fits l to from m (sym e))
+      within Pop3 k = omega (arith, initial-fits l to from m (sym e))
 
-  authorising : (p : Profile) (a : Auth) (o : Offer) → a ≡ auth l → length l ≤ commandLimit p → Measures (Views.Command (Commands.Auth a)) l t (onAuth s a o t .answer)
-  unfolding onAuth
-  authorising p a o e h = either (Views.Command (Commands.Auth a)) l t (wrongMoment (s .profile) s) (says s Replies.WrongMoment) (timely s a o t) tt (initial p a o e h)
-
-  relaying : (v : View) (i : Identity) (n : ℕ) → Relays v l i n → Measures v l t (relayed s i n)
-  relaying v i n h = go (signedIn (s .phase))
-    where
-      go : (b : Bool) → Measures v l t (cond b (Answers.Forward i n) (Answers.Forward Identities.Null 0))
-      go true = h
-      go false = refl
-
-  beginning : (p : Profile) (m : Mail) → m ≡ mail l → length l ≤ mailLimit p → Measures (Views.Command (Commands.Mail m)) l t (begins s m .answer)
+  mailed : (p : Profile) (m : Mail) → m ≡ mail l → length l ≤ mailLimit p → Relayed l (Views.Command (Commands.Mail m))
   unfolding relayOctets
-  beginning p Mails.Malformed e h = tt
-  beginning p Mails.Absent e h = relaying (Views.Command (Commands.Mail Mails.Absent)) Identities.Absent 0 refl
-  beginning p Mails.Null e h = relaying (Views.Command (Commands.Mail Mails.Null)) Identities.Null 0 refl
-  beginning p (Mails.Address from to n) e h =
-      let r = address-read l from to n (sym e) in
-      relaying (Views.Command (Commands.Mail (Mails.Address from to n))) Identities.Address n (r .0, r .1, within p h)
+  mailed p Mails.Malformed e h n f = absurd (never f)
+  mailed p Mails.Absent e h n f = absurd (never f)
+  mailed p Mails.Null e h n f = absurd (never f)
+  mailed p (Mails.Address from to m) e h n f =
+      let r = address-read l from to m (sym e) in
+      rw (← (some-same f)) (r .0, r .1, within p h)
     where
-      within : (p : Profile) → length l ≤ mailLimit p → n ≤ 9213
-      within Smtp k = omega (arith, address-within l from to n (sym e))
-      within Pop3 k = omega (arith, address-within l from to n (sym e))
+      within : (p : Profile) → length l ≤ mailLimit p → m ≤ 9213
+      within Smtp k = omega (arith, address-within l from to m (sym e))
+      within Pop3 k = omega (arith, address-within l from to m (sym e))
 
-  mailing : (p : Profile) (m : Mail) → m ≡ mail l → length l ≤ mailLimit p → Measures (Views.Command (Commands.Mail m)) l t (onMail s m .answer)
-  unfolding onMail
-  mailing p m e h = either (Views.Command (Commands.Mail m)) l t (s .transaction) (says s Replies.WrongMoment) (begins s m) tt (beginning p m e h)
+  untold : (v : View) → responseLength v ≡ none → addressLength v ≡ none → Responds l v × Relayed l v
+  untold v e f = ((λ n g. absurd (never (sym e ∙ g))), (λ n g. absurd (never (sym f ∙ g))))
 
-  commanding : (p : Profile) (c : Command) (o : Offer) → Holds p l c → Measures (Views.Command c) l t (onCommand s c o t .answer)
-  unfolding onCommand
-  commanding p Commands.NotUnderstood o h = tt
-  commanding p Commands.Malformed o h = tt
-  commanding p Commands.Ehlo o h = refl
-  commanding p Commands.Helo o h = refl
-  commanding p Commands.Rset o h = refl
-  commanding p Commands.Quit o h = refl
-  commanding p (Commands.Mail m) o h = mailing p m (h .0) (h .1)
-  commanding p (Commands.Auth a) o h = authorising p a o (h .0) (h .1)
-  commanding p Commands.Barred o h = tt
-  commanding p Commands.Other o h = refl
+  commanded : (p : Profile) (c : Command) → Holds p l c → Responds l (Views.Command c) × Relayed l (Views.Command c)
+  commanded p Commands.NotUnderstood h = untold (Views.Command Commands.NotUnderstood) refl refl
+  commanded p Commands.Malformed h = untold (Views.Command Commands.Malformed) refl refl
+  commanded p Commands.Ehlo h = untold (Views.Command Commands.Ehlo) refl refl
+  commanded p Commands.Helo h = untold (Views.Command Commands.Helo) refl refl
+  commanded p Commands.Rset h = untold (Views.Command Commands.Rset) refl refl
+  commanded p Commands.Quit h = untold (Views.Command Commands.Quit) refl refl
+  commanded p (Commands.Mail m) h = ((λ n f. absurd (never f)), mailed p m (h .0) (h .1))
+  commanded p (Commands.Auth a) h = (initial p a (h .0) (h .1), (λ n f. absurd (never f)))
+  commanded p Commands.Barred h = untold (Views.Command Commands.Barred) refl refl
+  commanded p Commands.Other h = untold (Views.Command Commands.Other) refl refl
 
-  responding : (p : Profile) (k : ℕ) (r : Response) → response p l ≡ r → Measures (Views.Response r) l t (onResponse s k r t .answer)
-  unfolding onResponse queryOctets
-  responding p k Responses.TooLong e = tt
-  responding p k Responses.Cancelled e = tt
-  responding p k Responses.Malformed e = tt
-  responding p k (Responses.Length n) e = asking (Views.Response (Responses.Length n)) k false n (response-read p l n e)
+  responded : (p : Profile) (r : Response) → response p l ≡ r → Responds l (Views.Response r)
+  unfolding queryOctets
+  responded p Responses.TooLong e n f = absurd (never f)
+  responded p Responses.Cancelled e n f = absurd (never f)
+  responded p Responses.Malformed e n f = absurd (never f)
+  responded p (Responses.Length m) e n f = rw (← (some-same f)) (response-read p l m e)
 
-  pub line-measures : (o : Offer) → Measures (view s l) l t (afterLine s (view s l) o t .answer)
-  unfolding viewIn afterLine
-  line-measures o = go (s .phase)
-    where
-      go : (p : Phase) → Measures (viewIn (s .profile) p l) l t (onLine p s (viewIn (s .profile) p l) o t .answer)
-      go Phases.Idle = commanding (s .profile) (command (s .profile) l) o (command-read l (s .profile))
-      go Phases.SignedIn = commanding (s .profile) (command (s .profile) l) o (command-read l (s .profile))
-      go (Phases.Awaiting k) = responding (s .profile) k (response (s .profile) l) refl
-      go (Phases.Waiting u k) = tt
+  viewed : (p : Profile) (q : Phase) → Responds l (viewIn p q l) × Relayed l (viewIn p q l)
+  unfolding viewIn
+  viewed p Phases.Idle = commanded p (command p l) (command-read l p)
+  viewed p Phases.SignedIn = commanded p (command p l) (command-read l p)
+  viewed p (Phases.Awaiting k) = (responded p (response p l) refl, (λ n f. absurd (never f)))
+  viewed p (Phases.Waiting t k) = untold Views.Unread refl refl
+
+  told : (v : View) (i : Identity) (n : ℕ) → Relayed l v → Told v i n → Relays v l i n
+  told v Identities.NoMail n h w = w
+  told v Identities.Null n h w = w
+  told v Identities.Absent n h w = w
+  told v Identities.Address n h w = h n w
+
+  measured : {s : Session} {v : View} {t : ℕ} {c : Change} → Responds l v × Relayed l v → Makes s v t c → Measures v l t (c .answer)
+  measured h (refused r) = tt
+  measured h (replied q r) = tt
+  measured h (failed u r) = tt
+  measured {v = v} h (forwarded q a g x i n w) = told v i n (h .1) w
+  measured h (challenged u) = tt
+  measured h (asked u k f b n w) = let m = h .0 n w in (refl, m .0, m .1, m .2)
+
+  pub line-measures : (s : Session) (o : Offer) (t : ℕ) → Measures (view s l) l t (afterLine s (view s l) o t .answer)
+  unfolding afterLine
+  line-measures s o t = measured (viewed (s .profile) (s .phase)) (makes s t (view s l) o)
