@@ -32,7 +32,8 @@ use Rattle.session.specs.declared.view.View.the-variants as Views
 use Rattle.session.specs.Session.{signedIn}
 use Rattle.session.specs.Octets.{authIn, mailIn}
 use Rattle.session.specs.Change.{moves, says, refuses, fails}
-use Rattle.session.specs.Query.{unissued, asks}
+use Rattle.session.specs.Limits.{mostChallenges, unissued}
+use Rattle.session.specs.Query.{asks}
 use Rattle.session.specs.Auth.{wrongMoment, available, clientFirst, alone, withInitial, timely, onAuth}
 use Rattle.session.specs.Mail.{relays, begins, onMail}
 use Rattle.session.specs.Command.{onCommand}
@@ -101,11 +102,11 @@ pub data Makes (s : Session) (v : View) (t : ℕ) : Change → Type 0 where
   forwarded : standing (s .phase) ≡ quiet → isAuth v ≡ false → (g x : Bool) (i : Identity) (n : ℕ) → Told v i n
       → Makes s v t (record { greeted = g; transaction = x; phase = s .phase; answer = Answers.Forward i n })
   challenged : signedIn (s .phase) ≡ false → Makes s v t (moves s (Phases.Awaiting 1) Answers.Challenge)
-  asked : signedIn (s .phase) ≡ false → (k : ℕ) → (sentWithin (s .phase) ≡ true → leb k 16 ≡ true) → (b : Bool) (n : ℕ) → responseLength v ≡ some n
+  asked : signedIn (s .phase) ≡ false → (k : ℕ) → (sentWithin (s .phase) ≡ true → leb k mostChallenges ≡ true) → (b : Bool) (n : ℕ) → responseLength v ≡ some n
       → Makes s v t (moves s (Phases.Waiting t k) (Answers.Query t b n))
 
 module _ (s : Session) (t : ℕ) where
-  asking : (v : View) (k : ℕ) (b : Bool) (n : ℕ) → signedIn (s .phase) ≡ false → (sentWithin (s .phase) ≡ true → leb k 16 ≡ true) → responseLength v ≡ some n
+  asking : (v : View) (k : ℕ) (b : Bool) (n : ℕ) → signedIn (s .phase) ≡ false → (sentWithin (s .phase) ≡ true → leb k mostChallenges ≡ true) → responseLength v ≡ some n
       → Makes s v t (asks s t k b n)
   asking v k b n h f e = picked (Makes s v t) (eqb t unissued) _ _ (refused Refusals.Exhausted) (asked h k f b n e)
 
@@ -172,7 +173,7 @@ module _ (s : Session) (t : ℕ) where
     resting Views.Unread o = replied q Replies.Syntax
 
   -- where a response is awaited
-  module _ (h : signedIn (s .phase) ≡ false) (k : ℕ) (f : sentWithin (s .phase) ≡ true → leb k 16 ≡ true) where
+  module _ (h : signedIn (s .phase) ≡ false) (k : ℕ) (f : sentWithin (s .phase) ≡ true → leb k mostChallenges ≡ true) where
     responding : (r : Response) → Makes s (Views.Response r) t (onResponse s k r t)
     unfolding onResponse
     responding Responses.TooLong = failed h Replies.ResponseTooLong

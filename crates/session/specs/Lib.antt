@@ -1,4 +1,5 @@
 -- The definitions that the promises of session cite.
+pub mod Limits
 pub mod Session
 pub mod View
 pub mod Octets

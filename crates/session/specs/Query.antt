@@ -7,11 +7,8 @@ use Rattle.session.specs.declared.Phase.the-variants as Phases
 use Rattle.session.specs.declared.Session.{Session}
 use Rattle.session.specs.declared.answer.Answer.the-variants as Answers
 use Rattle.session.specs.declared.change.Change.{Change}
+use Rattle.session.specs.Limits.{unissued}
 use Rattle.session.specs.Change.{moves, refuses}
-
--- "2^64-1 is never issued."
-abbrev pub unissued : ℕ
-unissued = 0xFFFFFFFFFFFFFFFF
 
 -- a query under the ticket t, in an exchange that has sent k challenges; b: "whether it only starts an exchange"; n: "decoded length".
 -- Refusal 7: "the number or ticket needed is 2^64-1"

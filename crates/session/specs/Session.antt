@@ -8,10 +8,11 @@ use Rattle.profile.specs.declared.Profile.{Profile}
 use Rattle.session.specs.declared.Phase.{Phase}
 use Rattle.session.specs.declared.Phase.the-variants.{Idle, SignedIn, Awaiting, Waiting}
 use Rattle.session.specs.declared.Session.{Session}
+use Rattle.session.specs.Limits.{longestName}
 
 -- "Open: profile 0 SMTP or 1 POP3, protected or not": not greeted, no transaction, no exchange, nobody signed in
 abbrev pub opened : Profile → Bool → Session
-opened p b = record { name = replicate 64 0; profile = p; protected = b; greeted = false; transaction = false; phase = Idle }
+opened p b = record { name = replicate longestName 0; profile = p; protected = b; greeted = false; transaction = false; phase = Idle }
 
 -- "Who: signed in or not, and the name."
 abbrev pub signedIn : Phase → Bool
@@ -27,7 +28,7 @@ nameOf s = before 0x00 (s .name)
 abbrev pub named : Session → List ℕ → Session
 named s n =
     record {
-      name = paddedTo 64 n;
+      name = paddedTo longestName n;
       profile = s .profile;
       protected = s .protected;
       greeted = s .greeted;

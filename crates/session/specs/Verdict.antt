@@ -15,6 +15,7 @@ use Rattle.session.specs.declared.Session.{Session}
 use Rattle.session.specs.declared.Stepped.{Stepped}
 use Rattle.session.specs.declared.answer.Answer.the-variants as Answers
 use Rattle.session.specs.declared.change.Change.{Change}
+use Rattle.session.specs.Limits.{mostChallenges, longestChallenge, longestName}
 use Rattle.session.specs.Session.{named}
 use Rattle.session.specs.Change.{moves, fails, refuses, stepped}
 
@@ -23,11 +24,11 @@ abbrev pub graphic : ℕ → Bool
 graphic x = leb 0x21 x && leb x 0x7E
 
 unfoldable pub isName : List ℕ → Bool
-isName n = leb 1 (length n) && leb (length n) 64 && every graphic n
+isName n = leb 1 (length n) && leb (length n) longestName && every graphic n
 
 -- "Verdicts: challenge (0 to 9,210 octets); success with a name ..; rejected, temporary, transition, weak, these four with no data."
 abbrev pub given : Verdict → List ℕ → Bool
-given Challenge d = leb (length d) 9210
+given Challenge d = leb (length d) longestChallenge
 given Success d = isName d
 given Rejected d = isEmpty d
 given Temporary d = isEmpty d
@@ -37,7 +38,7 @@ given Weak d = isEmpty d
 -- "An exchange sends at most 16 challenges, the empty first one included. A challenge verdict that would send a 17th gets the temporary
 -- reply and ends it." k: the challenges sent
 abbrev pub challenged : Session → ℕ → Change
-challenged s k = cond (ltb k 16) (moves s (Awaiting (k + 1)) Answers.Challenge) (fails s Replies.Temporary)
+challenged s k = cond (ltb k mostChallenges) (moves s (Awaiting (k + 1)) Answers.Challenge) (fails s Replies.Temporary)
 
 abbrev pub accepted : Session → ℕ → Verdict → List ℕ → Stepped
 accepted s k Challenge d = stepped s (challenged s k)

@@ -48,13 +48,13 @@ pub struct Stepped {
 }
 
 impl Session {
-    // An exchange sends at most so many challenges.
-    pub const CHALLENGES: u8 = 16;
+    // How many challenges an exchange sends.
+    pub const MOST_CHALLENGES: u8 = 16;
 
-    // The longest challenge of a verdict, and the longest name.
-    pub const CHALLENGE_OCTETS: usize = 9210;
+    // In octets.
+    pub const LONGEST_CHALLENGE: usize = 9210;
 
-    pub const NAME_OCTETS: usize = 64;
+    pub const LONGEST_NAME: usize = 64;
 
     // The number that is never issued.
     pub const UNISSUED: u64 = 18446744073709551615;

@@ -25,7 +25,7 @@ fn is_name(bytes: &[u8]) -> bool
     if bytes.len() < 1 {
         return false;
     }
-    if Session::NAME_OCTETS < bytes.len() {
+    if Session::LONGEST_NAME < bytes.len() {
         return false;
     }
     let mut i: usize = 0;
@@ -43,7 +43,7 @@ fn is_given(verdict: Verdict, bytes: &[u8]) -> bool
     ensures { λ r. ⌜ r ≡ given verdict (now (bytes .entry)) ⌝ }
 {
     match verdict {
-        Verdict::Challenge => bytes.len() <= Session::CHALLENGE_OCTETS,
+        Verdict::Challenge => bytes.len() <= Session::LONGEST_CHALLENGE,
         Verdict::Success => is_name(bytes),
         Verdict::Rejected => bytes.len() == 0,
         Verdict::Temporary => bytes.len() == 0,
@@ -66,7 +66,7 @@ impl Session {
     fn challenged(self, sent: u8) -> Change
         ensures { λ r. ⌜ r ≡ challenged self sent ⌝ }
     {
-        if sent < Session::CHALLENGES {
+        if sent < Session::MOST_CHALLENGES {
             self.moves(Phase::Awaiting { sent: sent + 1 }, Answer::Challenge)
         } else {
             self.fails(Reply::Temporary)
