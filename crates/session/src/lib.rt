@@ -1,4 +1,8 @@
 // One connection's session: a step takes the session and one event, and hands it back as the next session with its answer.
+//
+// Whoever keeps a session reads a line with it (`read`), looks up the mechanism that the view names (`View::mechanism`), and steps (`line`).
+// Then it decodes what the line hands on (`View::decode_response` for a query, `View::decode_address` for a MAIL), or writes what the client
+// hears (`Answer::say`). A verdict is a step of its own (`verdict`), and so is the end of a transaction (`mail_ended`).
 ghost use mathlib.Core.Path.{_≡_};
 ghost use Rattle.session.specs.Session.{opened, signedIn};
 ghost use Rattle.session.specs.View.{view};
@@ -51,7 +55,7 @@ impl Session {
     // How many challenges an exchange sends.
     pub const MOST_CHALLENGES: u8 = 16;
 
-    // In octets.
+    // How many octets a verdict's challenge and its name have.
     pub const LONGEST_CHALLENGE: usize = 9210;
 
     pub const LONGEST_NAME: usize = 64;
