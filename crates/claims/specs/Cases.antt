@@ -52,6 +52,7 @@ answered p o (Answers.Refused r) = refused
 answered p o (Answers.Forward i n) = forwards
 answered p o (Answers.Query t b n) = asks n o
 answered p o (Answers.Reply e) = says (heard p [] (Answers.Reply e))
+answered p o Answers.EmptyChallenge = says (heard p [] Answers.EmptyChallenge)
 answered p o Answers.Challenge = says (heard p [] Answers.Challenge)
 
 -- c: what came of the line before

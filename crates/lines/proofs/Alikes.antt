@@ -179,7 +179,8 @@ verb-line : (a x : List ℕ) → capitals a ≡ ascii "AUTH" → verbOf (verb (a
 unfolding verb verbOf same
 verb-line a x e = rw (before-cut space a x (spaceless a (ap (holds space) e)), e)
 
-command-line : (p : Profile) (a x : List ℕ) → capitals a ≡ ascii "AUTH"
+-- a line that begins with AUTH and a space is an AUTH line, or not understood
+pub command-line : (p : Profile) (a x : List ℕ) → capitals a ≡ ascii "AUTH"
     → command p (a ++ (space ∷ x)) ≡ cond (understood p Verbs.Auth (a ++ (space ∷ x))) (Commands.Auth (auth (a ++ (space ∷ x)))) Commands.NotUnderstood
 unfolding command
 command-line Smtp a x e = rw (verb-line a x e)

@@ -4,9 +4,9 @@ use mathlib.Core.Bool.{Bool, true, false, cond, false≢true}
 use mathlib.Core.List.{List}
 use mathlib.Core.Option.{Option, none, some}
 use Prim.Native.Nat.{ℕ}
-use native.Mathlib.Omega.{arith}
 use Rattle.lines.specs.declared.auth.Auth.{Auth}
 use Rattle.lines.specs.declared.command.Command.the-variants as Commands
+use Rattle.session.specs.declared.Phase.{Phase}
 use Rattle.session.specs.declared.Phase.the-variants as Phases
 use Rattle.session.specs.declared.Session.{Session}
 use Rattle.session.specs.declared.change.Change.{Change}
@@ -17,7 +17,7 @@ use Rattle.session.specs.Session.{signedIn, nameOf}
 use Rattle.session.specs.Line.{afterLine}
 use Rattle.session.specs.Verdict.{afterVerdict}
 use Rattle.session.specs.Named.{bears, grants}
-use Rattle.session.specs.Standing.{quiet, awaits, standing}
+use Rattle.session.specs.Standing.{quiet, standing}
 use Rattle.session.proofs.Makes.{isAuth, Makes, refused, replied, failed, forwarded, challenged, asked, makes}
 use Rattle.session.specs.Exchange.{Exchange, begins, answered, judged, Kept}
 use Rattle.session.proofs.Judged.{verdicts}
@@ -32,7 +32,7 @@ keeps x (replied q r) = (refl, refl)
 keeps x (failed h r) = (refl, refl)
 keeps x (forwarded q a g y i n w) = absurd (x q a)
 keeps x (challenged h) = (refl, refl)
-keeps x (asked h k f b n w) = (refl, refl)
+keeps x (asked i h k f b n z w) = (refl, refl)
 
 module _ (s : Session) where
   kept : (v : View) (o : Offer) (t : ℕ) → (standing (s .phase) ≡ quiet → isAuth v ≡ false → ⊥) → Kept s (afterLine s v o t .session)
@@ -42,11 +42,14 @@ module _ (s : Session) where
   auth-kept : (a : Auth) (o : Offer) (t : ℕ) → Kept s (afterLine s (Views.Command (Commands.Auth a)) o t .session)
   auth-kept a o t = kept (Views.Command (Commands.Auth a)) o t (λ q e. false≢true (sym e))
 
-  response-kept : (k : ℕ) → s .phase ≡ Phases.Awaiting k → (v : View) (o : Offer) (t : ℕ) → Kept s (afterLine s v o t .session)
-  response-kept k e v o t = kept v o t (λ q a. running (sym (ap standing e) ∙ q))
+  running-unsigned : (standing (s .phase) ≡ quiet → ⊥) → signedIn (s .phase) ≡ false
+  running-unsigned x = go (s .phase) x
     where
-      running : awaits ≡ quiet → ⊥
-      running q = let z : _≡_ {A = ℕ} 0 1 = cc in omega arith
+      go : (p : Phase) → (standing p ≡ quiet → ⊥) → signedIn p ≡ false
+      go Phases.Idle x = refl
+      go Phases.SignedIn x = absurd (x refl)
+      go (Phases.Awaiting k) x = refl
+      go (Phases.Waiting t k) x = refl
 
 followed : {s u w : Session} → Kept s u → Kept u w → Kept s w
 followed h k = record { greeted = k .greeted ∙ h .greeted; transaction = k .transaction ∙ h .transaction; name = k .name ∙ h .name }
@@ -63,7 +66,7 @@ ungranted false d x e = (refl, sym e)
 -- "A failed exchange leaves greeting, transaction and name as they were before AUTH": wherever nobody is signed in
 pub failed-keeps : {s u : Session} → Exchange s u → signedIn (u .phase) ≡ false → Kept s u
 failed-keeps {s} (begins a o t) h = auth-kept s a o t
-failed-keeps {s} (answered {u = u} x k e v o t) h = followed (failed-keeps x (ap signedIn e)) (response-kept u k e v o t)
+failed-keeps {s} (answered {u = u} x y v o t) h = followed (failed-keeps x (running-unsigned u y)) (kept u v o t (λ q a. y q))
 failed-keeps {s} (judged {u = u} x t v d) h =
     let j = verdicts u d t v in
     let w = afterVerdict u t v d .session in

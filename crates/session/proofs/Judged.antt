@@ -1,15 +1,15 @@
 -- What holds of every session after a verdict, case by case. Assumes nothing.
 use mathlib.Core.Path.{_≡_, refl, sym, _∙_, ap}
-use mathlib.Core.Bool.{Bool, true, false, cond, _&&_, false≢true}
-use mathlib.Core.List.{List}
+use mathlib.Core.Bool.{Bool, true, false, cond, not, _&&_, false≢true}
+use mathlib.Core.List.{List, [], _∷_}
 use mathlib.Core.Option.{none, some}
 use Prim.Native.Nat.{ℕ, _+_, _≤_}
 use native.Mathlib.Omega.{arith}
 use borrow.Author.Tests.{leb-true, le-leb, ltb-true}
 use lib.Dec.{leb, ltb, eqb}
 use lib.ListN.{length, replicate}
-use Rattle.octets.specs.Lists.{every, same, paddedTo}
-use Rattle.octets.proofs.Cases.{both}
+use Rattle.octets.specs.Lists.{isEmpty, every, same, paddedTo}
+use Rattle.octets.proofs.Cases.{both, picked}
 use Rattle.octets.proofs.Padded.{before-padded}
 use Rattle.octets.proofs.Words.{same-refl}
 use Rattle.profile.specs.declared.Reply.{Reply}
@@ -27,7 +27,9 @@ use Rattle.session.specs.declared.answer.Answer.the-variants as Answers
 use Rattle.session.specs.Session.{signedIn, nameOf, named}
 use Rattle.session.specs.Change.{moves, fails, refuses, stepped}
 use Rattle.session.specs.Verdict.{graphic, isName, given, challenged, accepted, onVerdict, onTicket, afterVerdict}
-use Rattle.session.specs.Standing.{standing, stands, isRefused}
+use Rattle.session.specs.Standing.{standing, stands, isHeard, isRefused}
+use Rattle.session.specs.Limits.{mostChallenges, longestChallenge, longestName}
+use Rattle.session.specs.declared.change.Change.{Change}
 use Rattle.session.specs.Named.{bears, waitsOn, isSuccess, grants}
 use Rattle.session.specs.WellFormed.{sentWithin, nameWithin, wellFormed}
 
@@ -45,7 +47,7 @@ pub record Judged (s : Session) (g : Bool) (d : List ℕ) (r : Stepped) : Type 0
   pub refused : isRefused (r .answer) ≡ true → r .session ≡ s
   -- whom the session bears: g, whether the verdict signs somebody in
   pub borne : bears (r .session) ≡ cond g (some d) (bears s)
-  -- all but the name and the phase stay; the name too where nobody is signed in
+  -- all but the name and the phase stay; the name too where the verdict signs nobody in
   pub greeted : r .session .greeted ≡ s .greeted
   pub transaction : r .session .transaction ≡ s .transaction
   pub profile : r .session .profile ≡ s .profile
@@ -72,7 +74,7 @@ module _ (s : Session) (d : List ℕ) where
     nobody : bears s ≡ none
     nobody = ap (λ (p : Phase). cond (signedIn p) (some (nameOf s)) none) e
 
-    -- the fields of a session that waits, in what it is next
+    -- what the limits say of a session that waits: of its count, and of its name
     sent : wellFormed s ≡ true → leb k 16 ≡ true
     sent w = sym (ap sentWithin e) ∙ both (sentWithin (s .phase)) (nameWithin s) w .0
 
@@ -170,3 +172,55 @@ module _ (s : Session) (d : List ℕ) where
       go Phases.SignedIn e = refusing Refusals.NoTicket
       go (Phases.Awaiting k) e = refusing Refusals.NoTicket
       go (Phases.Waiting u k) e = asked (eqb u t) k u e
+
+empty-short : (d : List ℕ) → isEmpty d ≡ true → length d ≤ longestChallenge
+empty-short [] e = omega arith
+empty-short (x ∷ d) e = absurd (false≢true e)
+
+-- a verdict is heard exactly where the session waits on its ticket and its data are in order, and refused everywhere else
+module _ (s : Session) (d : List ℕ) where
+  accepted-heard : (k : ℕ) (v : Verdict) → (isHeard (accepted s k v d .answer) ≡ true) × (isRefused (accepted s k v d .answer) ≡ false)
+  accepted-heard k Verdicts.Challenge = picked (λ (c : Change). (isHeard (c .answer) ≡ true) × (isRefused (c .answer) ≡ false)) (ltb k mostChallenges) _ _ (refl, refl) (refl, refl)
+  accepted-heard k Verdicts.Success = (refl, refl)
+  accepted-heard k Verdicts.Rejected = (refl, refl)
+  accepted-heard k Verdicts.Temporary = (refl, refl)
+  accepted-heard k Verdicts.Transition = (refl, refl)
+  accepted-heard k Verdicts.Weak = (refl, refl)
+
+  pub heard-or-refused : (t : ℕ) (v : Verdict)
+      → (isHeard (afterVerdict s t v d .answer) ≡ (waitsOn t (s .phase) && given v d)) × (isRefused (afterVerdict s t v d .answer) ≡ not (waitsOn t (s .phase) && given v d))
+  unfolding afterVerdict onVerdict
+  heard-or-refused t v = go (s .phase)
+    where
+      data-tested : (k : ℕ) (g : Bool)
+          → (isHeard (cond g (accepted s k v d) (stepped s (refuses s Refusals.NotListed)) .answer) ≡ g)
+          × (isRefused (cond g (accepted s k v d) (stepped s (refuses s Refusals.NotListed)) .answer) ≡ not g)
+      data-tested k true = accepted-heard k v
+      data-tested k false = (refl, refl)
+
+      ticket-tested : (k : ℕ) (b : Bool)
+          → (isHeard (cond b (onVerdict s k v d) (stepped s (refuses s Refusals.NoTicket)) .answer) ≡ (b && given v d))
+          × (isRefused (cond b (onVerdict s k v d) (stepped s (refuses s Refusals.NoTicket)) .answer) ≡ not (b && given v d))
+      ticket-tested k true = data-tested k (given v d)
+      ticket-tested k false = (refl, refl)
+
+      go : (p : Phase) → (isHeard (onTicket p s t v d .answer) ≡ (waitsOn t p && given v d)) × (isRefused (onTicket p s t v d .answer) ≡ not (waitsOn t p && given v d))
+      go Phases.Idle = (refl, refl)
+      go Phases.SignedIn = (refl, refl)
+      go (Phases.Awaiting k) = (refl, refl)
+      go (Phases.Waiting u k) = ticket-tested k (eqb u t)
+
+  -- a verdict's challenge is not too long
+  given-short : (v : Verdict) → given v d ≡ true → length d ≤ longestChallenge
+  unfolding isName
+  given-short Verdicts.Challenge g = leb-true (length d) longestChallenge g
+  given-short Verdicts.Success g =
+      let k = both (leb 1 (length d) && leb (length d) longestName) (every graphic d) g in
+      omega (arith, leb-true (length d) longestName (both (leb 1 (length d)) (leb (length d) longestName) (k .0) .1))
+  given-short Verdicts.Rejected g = empty-short d g
+  given-short Verdicts.Temporary g = empty-short d g
+  given-short Verdicts.Transition g = empty-short d g
+  given-short Verdicts.Weak g = empty-short d g
+
+  pub heard-short : (t : ℕ) (v : Verdict) → isHeard (afterVerdict s t v d .answer) ≡ true → length d ≤ longestChallenge
+  heard-short t v h = given-short v (both (waitsOn t (s .phase)) (given v d) (sym (heard-or-refused t v .0) ∙ h) .1)

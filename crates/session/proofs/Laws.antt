@@ -1,7 +1,7 @@
 -- The laws of a session's steps. Assumes nothing.
 use mathlib.Core.Path.{_≡_, refl, ap}
-use mathlib.Core.Bool.{Bool, true, cond}
-use mathlib.Core.List.{List}
+use mathlib.Core.Bool.{Bool, true, cond, not, _&&_}
+use mathlib.Core.List.{List, []}
 use mathlib.Core.Option.{none, some}
 use Prim.Native.Nat.{ℕ, _≤_}
 use native.Mathlib.Omega.{arith}
@@ -20,19 +20,22 @@ use Rattle.session.specs.declared.answer.Answer.{Answer}
 use Rattle.session.specs.declared.answer.Answer.the-variants as Answers
 use Rattle.session.specs.declared.view.Offer.{Offer}
 use Rattle.session.specs.declared.view.View.{View}
-use Rattle.session.specs.Session.{opened, nameOf}
+use Rattle.session.specs.Limits.{longestChallenge, longestName, replyBuffer}
+use Rattle.session.specs.Session.{opened, signedIn, nameOf}
+use Rattle.session.specs.declared.Phase.{Phase}
+use Rattle.session.specs.declared.Phase.the-variants as Phases
 use Rattle.session.specs.Answer.{challenge, heard, isChallengeAnswer}
 use Rattle.session.specs.Line.{afterLine}
-use Rattle.session.specs.Verdict.{afterVerdict}
+use Rattle.session.specs.Verdict.{given, afterVerdict}
 use Rattle.session.specs.MailEnded.{afterMail}
-use Rattle.session.specs.Standing.{quiet, standing, stands, isRefused}
-use Rattle.session.specs.Named.{bears, grants}
+use Rattle.session.specs.Standing.{quiet, standing, stands, isHeard, isRefused}
+use Rattle.session.specs.Named.{bears, waitsOn, grants}
 use Rattle.session.specs.WellFormed.{sentWithin, nameWithin, wellFormed}
 use Rattle.session.proofs.Makes.{makes}
 use Rattle.session.proofs.Sound.{sound}
-use Rattle.session.proofs.Judged.{verdicts}
--- a step depends on the view of a line alone, and views tell nothing of a response but its shape
-pub use Rattle.session.proofs.Views.{same-response-view, same-initial-view, same-initial-mechanism}
+use Rattle.session.proofs.Judged.{verdicts, heard-or-refused, heard-short}
+-- a step depends on the view of a line alone, and lines that are alike are seen alike
+pub use Rattle.session.proofs.Views.{Seen, same-view}
 -- what an answer says of a line's octets is so
 pub use Rattle.session.proofs.Measures.{line-measures}
 -- "A failed exchange leaves greeting, transaction and name as they were before AUTH."
@@ -51,14 +54,14 @@ module _ (s : Session) (v : View) (o : Offer) (t : ℕ) where
   unfolding afterLine
   line-refused e = sound (makes s t v o) .refused e
 
-  -- no line alters whom the session bears, nor what it was opened with
+  -- no line alters whom the session bears, nor profile and protection
   pub line-bears : bears (afterLine s v o t .session) ≡ bears s
   unfolding afterLine nameOf
   line-bears = ap (λ (b : Bool). cond b (some (nameOf s)) none) (sound (makes s t v o) .signed)
 
-  pub line-opened : (afterLine s v o t .session .profile ≡ s .profile) × (afterLine s v o t .session .protected ≡ s .protected)
+  pub line-fixed : (afterLine s v o t .session .profile ≡ s .profile) × (afterLine s v o t .session .protected ≡ s .protected)
   unfolding afterLine
-  line-opened = (refl, refl)
+  line-fixed = (refl, refl)
 
   pub line-within : wellFormed s ≡ true → wellFormed (afterLine s v o t .session) ≡ true
   unfolding afterLine nameWithin nameOf
@@ -78,11 +81,25 @@ module _ (s : Session) (t : ℕ) (v : Verdict) (d : List ℕ) where
   pub verdict-bears : bears (afterVerdict s t v d .session) ≡ cond (grants s t v d) (some d) (bears s)
   verdict-bears = verdicts s d t v .borne
 
-  pub verdict-opened : (afterVerdict s t v d .session .profile ≡ s .profile) × (afterVerdict s t v d .session .protected ≡ s .protected)
-  verdict-opened = let j = verdicts s d t v in (j .profile, j .protected)
+  pub verdict-fixed : (afterVerdict s t v d .session .profile ≡ s .profile) × (afterVerdict s t v d .session .protected ≡ s .protected)
+  verdict-fixed = let j = verdicts s d t v in (j .profile, j .protected)
+
+  pub verdict-keeps : (afterVerdict s t v d .session .greeted ≡ s .greeted) × (afterVerdict s t v d .session .transaction ≡ s .transaction)
+  verdict-keeps = let j = verdicts s d t v in (j .greeted, j .transaction)
+
+  -- it is heard exactly where the session waits on its ticket and its data are in order, and refused everywhere else
+  pub verdict-heard : isHeard (afterVerdict s t v d .answer) ≡ (waitsOn t (s .phase) && given v d)
+  verdict-heard = heard-or-refused s d t v .0
+
+  pub verdict-refuses : isRefused (afterVerdict s t v d .answer) ≡ not (waitsOn t (s .phase) && given v d)
+  verdict-refuses = heard-or-refused s d t v .1
 
   pub verdict-within : wellFormed s ≡ true → wellFormed (afterVerdict s t v d .session) ≡ true
   verdict-within w = verdicts s d t v .within w
+
+-- nobody is signed in who waits on a ticket
+pub waiting-nobody : (s : Session) (t k : ℕ) → s .phase ≡ Phases.Waiting t k → bears s ≡ none
+waiting-nobody s t k e = ap (λ (p : Phase). cond (signedIn p) (some (nameOf s)) none) e
 
 -- the end of a transaction alters nothing else
 module _ (s : Session) where
@@ -107,7 +124,7 @@ module _ (p : Profile) (b : Bool) where
 
   pub opened-within : wellFormed (opened p b) ≡ true
   unfolding nameWithin
-  opened-within = same-refl (replicate 64 0)
+  opened-within = same-refl (replicate longestName 0)
 
 -- what the client hears begins like a challenge exactly where it is one
 module _ (p : Profile) (d : List ℕ) where
@@ -117,17 +134,25 @@ module _ (p : Profile) (d : List ℕ) where
   heard-challenge (Answers.Forward i n) = unfold isChallenge same in refl
   heard-challenge (Answers.Query t b n) = unfold isChallenge same in refl
   heard-challenge (Answers.Reply e) = not-challenge p e
+  heard-challenge Answers.EmptyChallenge = challenge-begins p _
   heard-challenge Answers.Challenge = challenge-begins p _
 
-  -- and fits "a reply buffer (at least 12,288 octets)"
-  challenge-fits : (p : Profile) → length d ≤ 9210 → length (challenge p d) ≤ 12288
-  challenge-fits Smtp h = simp (length-append, length-encode) (omega arith)
-  challenge-fits Pop3 h = simp (length-append, length-encode) (omega arith)
+-- and it fits "a reply buffer (at least 12,288 octets)"
+challenge-fits : (p : Profile) (d : List ℕ) → length d ≤ longestChallenge → length (challenge p d) ≤ replyBuffer
+challenge-fits Smtp d h = simp (length-append, length-encode) (omega arith)
+challenge-fits Pop3 d h = simp (length-append, length-encode) (omega arith)
 
-  pub heard-fits : (a : Answer) → length d ≤ 9210 → length (heard p d a) ≤ 12288
-  unfolding heard
-  heard-fits (Answers.Refused r) h = omega arith
-  heard-fits (Answers.Forward i n) h = omega arith
-  heard-fits (Answers.Query t b n) h = omega arith
-  heard-fits (Answers.Reply e) h = omega (arith, reply-length p e)
-  heard-fits Answers.Challenge h = challenge-fits p h
+heard-fits : (p : Profile) (d : List ℕ) (a : Answer) → (isHeard a ≡ true → length d ≤ longestChallenge) → length (heard p d a) ≤ replyBuffer
+unfolding heard
+heard-fits p d (Answers.Refused r) h = omega arith
+heard-fits p d (Answers.Forward i n) h = omega arith
+heard-fits p d (Answers.Query t b n) h = omega arith
+heard-fits p d (Answers.Reply e) h = omega (arith, reply-length p e)
+heard-fits p d Answers.EmptyChallenge h = challenge-fits p [] (omega arith)
+heard-fits p d Answers.Challenge h = challenge-fits p d (h refl)
+
+pub line-heard-fits : (p : Profile) (a : Answer) → length (heard p [] a) ≤ replyBuffer
+line-heard-fits p a = heard-fits p [] a (λ e. omega arith)
+
+pub verdict-heard-fits : (p : Profile) (s : Session) (t : ℕ) (v : Verdict) (d : List ℕ) → length (heard p d (afterVerdict s t v d .answer)) ≤ replyBuffer
+verdict-heard-fits p s t v d = heard-fits p d (afterVerdict s t v d .answer) (heard-short s d t v)

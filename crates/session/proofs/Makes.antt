@@ -1,6 +1,6 @@
 -- All that a line can make of a session, rule by rule. What the laws need of a line's step they have from here. Assumes nothing.
 use mathlib.Core.Path.{_≡_, refl, sym, _∙_, ap}
-use mathlib.Core.Bool.{Bool, true, false, cond}
+use mathlib.Core.Bool.{Bool, true, false, cond, false≢true}
 use mathlib.Core.Option.{Option, none, some}
 use Prim.Native.Nat.{ℕ}
 use lib.Dec.{leb, eqb}
@@ -30,7 +30,7 @@ use Rattle.session.specs.declared.view.Offer.{Offer}
 use Rattle.session.specs.declared.view.View.{View}
 use Rattle.session.specs.declared.view.View.the-variants as Views
 use Rattle.session.specs.Session.{signedIn}
-use Rattle.session.specs.Octets.{authIn, mailIn}
+use Rattle.session.specs.Octets.{authCommand, mailIn}
 use Rattle.session.specs.Change.{moves, says, refuses, fails}
 use Rattle.session.specs.Limits.{mostChallenges, unissued}
 use Rattle.session.specs.Query.{asks}
@@ -42,7 +42,7 @@ use Rattle.session.specs.Line.{atRest, awaiting, onLine}
 use Rattle.session.specs.Standing.{quiet, standing}
 use Rattle.session.specs.WellFormed.{sentWithin}
 
--- the length that a view tells of a response, which is nothing where the mechanism is only named, and of an address
+-- the length that a view tells of a response, which is of zero octets where the mechanism is only named, and of an address
 abbrev initialLength : Auth → Option ℕ
 initialLength Auths.Malformed = none
 initialLength (Auths.Alone to) = some 0
@@ -55,7 +55,7 @@ lineLength Responses.Malformed = none
 lineLength (Responses.Length n) = some n
 
 abbrev pub responseLength : View → Option ℕ
-responseLength (Views.Command c) = initialLength (authIn c)
+responseLength (Views.Command c) = initialLength (authCommand c)
 responseLength (Views.Response r) = lineLength r
 responseLength Views.Unread = none
 
@@ -66,9 +66,7 @@ mailLength Mails.Null = none
 mailLength (Mails.Address from to n) = some n
 
 abbrev pub addressLength : View → Option ℕ
-addressLength (Views.Command c) = mailLength (mailIn c)
-addressLength (Views.Response r) = none
-addressLength Views.Unread = none
+addressLength v = mailLength (mailIn v)
 
 -- what an identity to relay has of the view
 abbrev pub Told : View → Identity → ℕ → Type 0
@@ -101,14 +99,18 @@ pub data Makes (s : Session) (v : View) (t : ℕ) : Change → Type 0 where
   failed : signedIn (s .phase) ≡ false → (r : Reply) → Makes s v t (fails s r)
   forwarded : standing (s .phase) ≡ quiet → isAuth v ≡ false → (g x : Bool) (i : Identity) (n : ℕ) → Told v i n
       → Makes s v t (record { greeted = g; transaction = x; phase = s .phase; answer = Answers.Forward i n })
-  challenged : signedIn (s .phase) ≡ false → Makes s v t (moves s (Phases.Awaiting 1) Answers.Challenge)
-  asked : signedIn (s .phase) ≡ false → (k : ℕ) → (sentWithin (s .phase) ≡ true → leb k mostChallenges ≡ true) → (b : Bool) (n : ℕ) → responseLength v ≡ some n
-      → Makes s v t (moves s (Phases.Waiting t k) (Answers.Query t b n))
+  challenged : signedIn (s .phase) ≡ false → Makes s v t (moves s (Phases.Awaiting 1) Answers.EmptyChallenge)
+  asked : eqb t unissued ≡ false → signedIn (s .phase) ≡ false → (k : ℕ) → (sentWithin (s .phase) ≡ true → leb k mostChallenges ≡ true) → (b : Bool) (n : ℕ)
+      → (b ≡ true → n ≡ 0) → responseLength v ≡ some n → Makes s v t (moves s (Phases.Waiting t k) (Answers.Query t b n))
 
 module _ (s : Session) (t : ℕ) where
-  asking : (v : View) (k : ℕ) (b : Bool) (n : ℕ) → signedIn (s .phase) ≡ false → (sentWithin (s .phase) ≡ true → leb k mostChallenges ≡ true) → responseLength v ≡ some n
-      → Makes s v t (asks s t k b n)
-  asking v k b n h f e = picked (Makes s v t) (eqb t unissued) _ _ (refused Refusals.Exhausted) (asked h k f b n e)
+  asking : (v : View) (k : ℕ) (b : Bool) (n : ℕ) → signedIn (s .phase) ≡ false → (sentWithin (s .phase) ≡ true → leb k mostChallenges ≡ true) → (b ≡ true → n ≡ 0)
+      → responseLength v ≡ some n → Makes s v t (asks s t k b n)
+  asking v k b n h f z e = go (eqb t unissued) refl
+    where
+      go : (x : Bool) → eqb t unissued ≡ x → Makes s v t (cond x (refuses s Refusals.Exhausted) (moves s (Phases.Waiting t k) (Answers.Query t b n)))
+      go true i = refused Refusals.Exhausted
+      go false i = asked i h k f b n z e
 
   -- where no exchange runs
   module _ (q : standing (s .phase) ≡ quiet) where
@@ -134,12 +136,12 @@ module _ (s : Session) (t : ℕ) where
     authenticating h (Auths.Alone to) o =
         let v = Views.Command (Commands.Auth (Auths.Alone to)) in
         picked (Makes s v t) (available s o) (alone s o t) (says s Replies.Unavailable)
-        (picked (Makes s v t) (clientFirst o) _ _ (challenged h) (asking v 0 true 0 h (λ e. refl) refl))
+        (picked (Makes s v t) (clientFirst o) _ _ (challenged h) (asking v 0 true 0 h (λ e. refl) (λ e. refl) refl))
         (replied q Replies.Unavailable)
     authenticating h (Auths.Initial to from n) o =
         let v = Views.Command (Commands.Auth (Auths.Initial to from n)) in
         picked (Makes s v t) (available s o) (withInitial s o n t) (says s Replies.Unavailable)
-        (picked (Makes s v t) (clientFirst o) _ _ (asking v 0 false n h (λ e. refl) refl) (replied q Replies.InitialResponse))
+        (picked (Makes s v t) (clientFirst o) _ _ (asking v 0 false n h (λ e. refl) (λ e. absurd (false≢true e)) refl) (replied q Replies.InitialResponse))
         (replied q Replies.Unavailable)
 
     unsigned : (p : Profile) → wrongMoment p s ≡ false → signedIn (s .phase) ≡ false
@@ -179,7 +181,7 @@ module _ (s : Session) (t : ℕ) where
     responding Responses.TooLong = failed h Replies.ResponseTooLong
     responding Responses.Cancelled = failed h Replies.Cancelled
     responding Responses.Malformed = failed h Replies.Syntax
-    responding (Responses.Length n) = asking (Views.Response (Responses.Length n)) k false n h f refl
+    responding (Responses.Length n) = asking (Views.Response (Responses.Length n)) k false n h f (λ e. absurd (false≢true e)) refl
 
     answering : (v : View) → Makes s v t (awaiting s k v t)
     answering (Views.Command c) = failed h Replies.Syntax

@@ -34,6 +34,7 @@ use Rattle.session.specs.declared.change.Change.{Change}
 use Rattle.session.specs.declared.view.Offer.{Offer}
 use Rattle.session.specs.declared.view.View.{View}
 use Rattle.session.specs.declared.view.View.the-variants as Views
+use Rattle.session.specs.Limits.{answerBuffer}
 use Rattle.session.specs.View.{viewIn, view}
 use Rattle.session.specs.Octets.{responseText, queryOctets, relayText, relayOctets}
 use Rattle.session.specs.Line.{afterLine}
@@ -42,10 +43,10 @@ use Rattle.session.proofs.Makes.{responseLength, addressLength, Told, M
 
 -- the lengths that a view of the line l tells
 abbrev Responds : List ℕ → View → Type 0
-Responds l v = (n : ℕ) → responseLength v ≡ some n → (Base64.valid (responseText v l) ≡ true) × (n ≡ length (queryOctets v l)) × (n ≤ 9213)
+Responds l v = (n : ℕ) → responseLength v ≡ some n → (Base64.valid (responseText v l) ≡ true) × (n ≡ length (queryOctets v l)) × (n ≤ answerBuffer)
 
 abbrev Relayed : List ℕ → View → Type 0
-Relayed l v = (n : ℕ) → addressLength v ≡ some n → (Xtext.valid (relayText v l) ≡ true) × (n ≡ length (relayOctets v l)) × (n ≤ 9213)
+Relayed l v = (n : ℕ) → addressLength v ≡ some n → (Xtext.valid (relayText v l) ≡ true) × (n ≡ length (relayOctets v l)) × (n ≤ answerBuffer)
 
 never : {n : ℕ} → _≡_ {A = Option ℕ} none (some n) → ⊥
 never e = let z : _≡_ {A = ℕ} 0 1 = cc in omega arith
@@ -62,7 +63,7 @@ module _ (l : List ℕ) where
       let r = initial-read l to from m (sym e) in
       rw (← (some-same f)) (r .0, r .1, within p h)
     where
-      within : (p : Profile) → length l ≤ commandLimit p → m ≤ 9213
+      within : (p : Profile) → length l ≤ commandLimit p → m ≤ answerBuffer
       within Smtp k = omega (arith, initial-fits l to from m (sym e))
       within Pop3 k = omega (arith, initial-fits l to from m (sym e))
 
@@ -75,7 +76,7 @@ module _ (l : List ℕ) where
       let r = address-read l from to m (sym e) in
       rw (← (some-same f)) (r .0, r .1, within p h)
     where
-      within : (p : Profile) → length l ≤ mailLimit p → m ≤ 9213
+      within : (p : Profile) → length l ≤ mailLimit p → m ≤ answerBuffer
       within Smtp k = omega (arith, address-within l from to m (sym e))
       within Pop3 k = omega (arith, address-within l from to m (sym e))
 
@@ -120,7 +121,7 @@ module _ (l : List ℕ) where
   measured h (failed u r) = tt
   measured {v = v} h (forwarded q a g x i n w) = told v i n (h .1) w
   measured h (challenged u) = tt
-  measured h (asked u k f b n w) = let m = h .0 n w in (refl, m .0, m .1, m .2)
+  measured h (asked i u k f b n z w) = let m = h .0 n w in record { ticket = refl; issued = i; starts = z; valid = m .0; measured = m .1; fits = m .2 }
 
   pub line-measures : (s : Session) (o : Offer) (t : ℕ) → Measures (view s l) l t (afterLine s (view s l) o t .answer)
   unfolding afterLine

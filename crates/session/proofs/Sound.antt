@@ -18,7 +18,7 @@ pub record Sound (s : Session) (c : Change) : Type 0 where
   pub signed : signedIn (c .phase) ≡ signedIn (s .phase)
   -- a refusal changes nothing
   pub refused : isRefused (c .answer) ≡ true → changed s c ≡ s
-  -- challenges are counted by verdicts alone, but for the empty first one
+  -- the count of challenges stays within its limit
   pub sent : sentWithin (s .phase) ≡ true → sentWithin (c .phase) ≡ true
 
 pub sound : {s : Session} {v : View} {t : ℕ} {c : Change} → Makes s v t c → Sound s c
@@ -27,4 +27,4 @@ sound (replied q r) = record { stands = q; signed = refl; refused = λ e. absurd
 sound (failed h r) = record { stands = refl; signed = sym h; refused = λ e. absurd (false≢true e); sent = λ e. refl }
 sound (forwarded q a g x i n w) = record { stands = q; signed = refl; refused = λ e. absurd (false≢true e); sent = λ e. e }
 sound (challenged h) = record { stands = refl; signed = sym h; refused = λ e. absurd (false≢true e); sent = λ e. refl }
-sound (asked h k f b n w) = record { stands = refl; signed = sym h; refused = λ e. absurd (false≢true e); sent = f }
+sound (asked i h k f b n z w) = record { stands = refl; signed = sym h; refused = λ e. absurd (false≢true e); sent = f }

@@ -41,6 +41,7 @@ numbers (Answers.Refused r) m = refusedNumbers r
 numbers (Answers.Forward i n) m = forwardNumbers i n
 numbers (Answers.Query t b n) m = queryNumbers t b n
 numbers (Answers.Reply e) m = replyNumbers m
+numbers Answers.EmptyChallenge m = replyNumbers m
 numbers Answers.Challenge m = replyNumbers m
 
 -- "An SMTP challenge begins with the four octets 334 and a space, then base64; POP3 has plus and a space. The space stays when the
@@ -48,11 +49,13 @@ numbers Answers.Challenge m = replyNumbers m
 abbrev pub challenge : Profile → List ℕ → List ℕ
 challenge p d = challengePrefix p ++ (Base64.encode d ++ crlf)
 
+-- what the client hears; d: the verdict's data
 unfoldable pub heard : Profile → List ℕ → Answer → List ℕ
 heard p d (Answers.Refused r) = []
 heard p d (Answers.Forward i n) = []
 heard p d (Answers.Query t b n) = []
 heard p d (Answers.Reply e) = reply p e
+heard p d Answers.EmptyChallenge = challenge p []
 heard p d Answers.Challenge = challenge p d
 
 abbrev pub isChallengeAnswer : Answer → Bool
@@ -60,4 +63,5 @@ isChallengeAnswer (Answers.Refused r) = false
 isChallengeAnswer (Answers.Forward i n) = false
 isChallengeAnswer (Answers.Query t b n) = false
 isChallengeAnswer (Answers.Reply e) = false
+isChallengeAnswer Answers.EmptyChallenge = true
 isChallengeAnswer Answers.Challenge = true

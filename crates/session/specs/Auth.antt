@@ -34,7 +34,7 @@ clientFirst (Present first guarded) = first
 
 -- "without one, a client-first mechanism gets an empty challenge, and a server-first one is asked to start"
 abbrev pub alone : Session → Offer → ℕ → Change
-alone s o t = cond (clientFirst o) (moves s (Phases.Awaiting 1) Answers.Challenge) (asks s t 0 true 0)
+alone s o t = cond (clientFirst o) (moves s (Phases.Awaiting 1) Answers.EmptyChallenge) (asks s t 0 true 0)
 
 -- "with an initial response, ask the service", where it is allowed
 abbrev pub withInitial : Session → Offer → ℕ → ℕ → Change

@@ -18,3 +18,4 @@ pub mod Named
 pub mod WellFormed
 pub mod Measures
 pub mod Exchange
+pub mod Alike

@@ -16,3 +16,10 @@ longestName = 64
 -- "2^64-1 is never issued."
 abbrev pub unissued : ℕ
 unissued = 0xFFFFFFFFFFFFFFFF
+
+-- "a reply buffer (at least 12,288 octets) and an answer buffer (at least 9,213)"
+abbrev pub replyBuffer : ℕ
+replyBuffer = 12288
+
+abbrev pub answerBuffer : ℕ
+answerBuffer = 9213

@@ -14,52 +14,58 @@ use Rattle.lines.specs.declared.command.Command.the-variants as Commands
 use Rattle.session.specs.declared.view.View.{View}
 use Rattle.session.specs.declared.view.View.the-variants as Views
 
--- the AUTH line, and the MAIL line, that a command is; any other command counts as one that is malformed and points to nothing
-abbrev pub authIn : Command → Auth
-authIn Commands.NotUnderstood = Auths.Malformed
-authIn Commands.Malformed = Auths.Malformed
-authIn Commands.Ehlo = Auths.Malformed
-authIn Commands.Helo = Auths.Malformed
-authIn Commands.Rset = Auths.Malformed
-authIn Commands.Quit = Auths.Malformed
-authIn (Commands.Mail m) = Auths.Malformed
-authIn (Commands.Auth a) = a
-authIn Commands.Barred = Auths.Malformed
-authIn Commands.Other = Auths.Malformed
+-- the AUTH line, and the MAIL line, that a view is of; any other line counts as one that is malformed and points to nothing
+abbrev pub authCommand : Command → Auth
+authCommand Commands.NotUnderstood = Auths.Malformed
+authCommand Commands.Malformed = Auths.Malformed
+authCommand Commands.Ehlo = Auths.Malformed
+authCommand Commands.Helo = Auths.Malformed
+authCommand Commands.Rset = Auths.Malformed
+authCommand Commands.Quit = Auths.Malformed
+authCommand (Commands.Mail m) = Auths.Malformed
+authCommand (Commands.Auth a) = a
+authCommand Commands.Barred = Auths.Malformed
+authCommand Commands.Other = Auths.Malformed
 
-abbrev pub mailIn : Command → Mail
-mailIn Commands.NotUnderstood = Mails.Malformed
-mailIn Commands.Malformed = Mails.Malformed
-mailIn Commands.Ehlo = Mails.Malformed
-mailIn Commands.Helo = Mails.Malformed
-mailIn Commands.Rset = Mails.Malformed
-mailIn Commands.Quit = Mails.Malformed
-mailIn (Commands.Mail m) = m
-mailIn (Commands.Auth a) = Mails.Malformed
-mailIn Commands.Barred = Mails.Malformed
-mailIn Commands.Other = Mails.Malformed
+abbrev pub authIn : View → Auth
+authIn (Views.Command c) = authCommand c
+authIn (Views.Response r) = Auths.Malformed
+authIn Views.Unread = Auths.Malformed
 
--- the name of the mechanism that an AUTH line asks for; nothing of any other line
+abbrev pub mailCommand : Command → Mail
+mailCommand Commands.NotUnderstood = Mails.Malformed
+mailCommand Commands.Malformed = Mails.Malformed
+mailCommand Commands.Ehlo = Mails.Malformed
+mailCommand Commands.Helo = Mails.Malformed
+mailCommand Commands.Rset = Mails.Malformed
+mailCommand Commands.Quit = Mails.Malformed
+mailCommand (Commands.Mail m) = m
+mailCommand (Commands.Auth a) = Mails.Malformed
+mailCommand Commands.Barred = Mails.Malformed
+mailCommand Commands.Other = Mails.Malformed
+
+abbrev pub mailIn : View → Mail
+mailIn (Views.Command c) = mailCommand c
+mailIn (Views.Response r) = Mails.Malformed
+mailIn Views.Unread = Mails.Malformed
+
+-- the name of the mechanism that an AUTH line asks for
 abbrev pub mechanismText : View → List ℕ → List ℕ
-mechanismText (Views.Command c) l = nameText (authIn c) l
-mechanismText (Views.Response r) l = []
-mechanismText Views.Unread l = []
+mechanismText v l = nameText (authIn v) l
 
 -- the base64 of a client's response: AUTH's initial response, or a whole line
 abbrev pub responseText : View → List ℕ → List ℕ
-responseText (Views.Command c) l = initialText (authIn c) l
+responseText (Views.Command c) l = initialText (authCommand c) l
 responseText (Views.Response r) l = l
 responseText Views.Unread l = []
 
--- "Only the decoded answer given to the password service may differ": the octets of a query
+-- the octets of a query
 unfoldable pub queryOctets : View → List ℕ → List ℕ
 queryOctets v l = Base64.octets (responseText v l)
 
 -- the xtext of the address that a MAIL line has, and its octets
 abbrev pub relayText : View → List ℕ → List ℕ
-relayText (Views.Command c) l = addressText (mailIn c) l
-relayText (Views.Response r) l = []
-relayText Views.Unread l = []
+relayText v l = addressText (mailIn v) l
 
 unfoldable pub relayOctets : View → List ℕ → List ℕ
 relayOctets v l = Xtext.octets (relayText v l)

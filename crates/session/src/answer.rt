@@ -14,7 +14,7 @@ use profile::numbers::Refusal;
 // What a step gives.
 // Refused: nothing changed. Forward (document 01: passed on): the identity to relay, with an address's length.
 // Query (document 01: a question): the ticket, whether it only starts an exchange, the response's length.
-// Reply: the text of an event. Challenge: the empty challenge that a line gets, or that of the verdict's data.
+// Reply: the text of an event. EmptyChallenge: a challenge of no octets. Challenge: one of the verdict's data.
 pub enum Answer {
     Refused(Refusal),
     Forward {
@@ -27,6 +27,7 @@ pub enum Answer {
         length: usize,
     },
     Reply(Reply),
+    EmptyChallenge,
     Challenge,
 }
 
@@ -123,8 +124,8 @@ fn write_challenge(profile: Profile, bytes: &[u8], out: &mut [u8]) -> Encoded
 }
 
 impl Answer {
-    // Writes what the client hears to the start of out: nothing, the text of an event, or a challenge of these octets. Where it does not
-    // fit, out is left as it is.
+    // Writes what the client hears to the start of out: nothing, the text of an event, or a challenge, whose octets are the verdict's data.
+    // Where it does not fit, out is left as it is.
     pub fn say(self, profile: Profile, bytes: &[u8], out: &mut [u8]) -> Encoded
         ensures { λ r. ⌜ (r ≡ encoded (heard profile (now (bytes .entry)) self) (length (now (out .entry))) 0) × (now (out .exit) ≡ written (now (out .entry)) 0 (heard profile (now (bytes .entry)) self)) ⌝ }
     {
@@ -133,6 +134,7 @@ impl Answer {
             Answer::Forward { .. } => octets::write(b"", out, 0),
             Answer::Query { .. } => octets::write(b"", out, 0),
             Answer::Reply(event) => profile.say(event, out),
+            Answer::EmptyChallenge => write_challenge(profile, b"", out),
             Answer::Challenge => write_challenge(profile, bytes, out),
         }
     }
@@ -150,6 +152,7 @@ impl Answer {
                 length,
             } => of_query(ticket, starts, length),
             Answer::Reply(_) => of_reply(heard),
+            Answer::EmptyChallenge => of_reply(heard),
             Answer::Challenge => of_reply(heard),
         }
     }

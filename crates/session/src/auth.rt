@@ -50,7 +50,7 @@ impl Session {
         ensures { λ r. ⌜ r ≡ alone self offer ticket ⌝ }
     {
         if speaks_first(offer) {
-            self.moves(Phase::Awaiting { sent: 1 }, Answer::Challenge)
+            self.moves(Phase::Awaiting { sent: 1 }, Answer::EmptyChallenge)
         } else {
             self.asks(ticket, 0, true, 0)
         }

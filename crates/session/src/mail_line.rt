@@ -1,6 +1,6 @@
 // MAIL.
 ghost use mathlib.Core.Path.{_≡_};
-ghost use Rattle.session.specs.Mail.{relays, begins, onMail};
+ghost use Rattle.session.specs.Mail.{relayed, relays, begins, onMail};
 use crate::Session;
 use crate::answer::Answer;
 use crate::change::Change;
@@ -9,28 +9,31 @@ use profile::Reply;
 use profile::numbers::Identity;
 
 impl Session {
-    // The transaction is opened, and the line passed on with an identity; with "<>" where nobody is signed in.
+    // The line is passed on with an identity; with "<>" where nobody is signed in.
+    fn relayed(self, identity: Identity, length: usize) -> Answer
+        ensures { λ r. ⌜ r ≡ relayed self identity length ⌝ }
+    {
+        if self.is_signed_in() {
+            Answer::Forward { identity, length }
+        } else {
+            Answer::Forward {
+                identity: Identity::Null,
+                length: 0,
+            }
+        }
+    }
+
+    // And the transaction is opened.
     fn relays(self, identity: Identity, length: usize) -> Change
         ensures { λ r. ⌜ r ≡ relays self identity length ⌝ }
     {
         let phase = self.phase;
-        if self.is_signed_in() {
-            Change {
-                greeted: self.greeted,
-                transaction: true,
-                phase,
-                answer: Answer::Forward { identity, length },
-            }
-        } else {
-            Change {
-                greeted: self.greeted,
-                transaction: true,
-                phase,
-                answer: Answer::Forward {
-                    identity: Identity::Null,
-                    length: 0,
-                },
-            }
+        let answer = self.relayed(identity, length);
+        Change {
+            greeted: self.greeted,
+            transaction: true,
+            phase,
+            answer,
         }
     }
 

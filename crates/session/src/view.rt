@@ -4,7 +4,7 @@ ghost use lib.ListN.{length};
 ghost use Rattle.base64.specs.Base64 as Base64;
 ghost use Rattle.xtext.specs.Xtext as Xtext;
 ghost use Rattle.lines.specs.Mechanism.{padded};
-ghost use Rattle.session.specs.Octets.{authIn, mailIn, mechanismText, responseText, relayText};
+ghost use Rattle.session.specs.Octets.{authCommand, authIn, mailCommand, mailIn, mechanismText, responseText, relayText};
 use lines::auth::Auth;
 use lines::auth::decode_initial;
 use lines::auth::name_at;
@@ -31,8 +31,8 @@ pub enum Offer {
 }
 
 // The AUTH line that a command is; any other is taken for a malformed one.
-fn auth_in(command: Command) -> Auth
-    ensures { λ r. ⌜ r ≡ authIn command ⌝ }
+fn auth_command(command: Command) -> Auth
+    ensures { λ r. ⌜ r ≡ authCommand command ⌝ }
 {
     match command {
         Command::NotUnderstood => Auth::Malformed,
@@ -49,8 +49,8 @@ fn auth_in(command: Command) -> Auth
 }
 
 // The MAIL line that a command is, likewise.
-fn mail_in(command: Command) -> Mail
-    ensures { λ r. ⌜ r ≡ mailIn command ⌝ }
+fn mail_command(command: Command) -> Mail
+    ensures { λ r. ⌜ r ≡ mailCommand command ⌝ }
 {
     match command {
         Command::NotUnderstood => Mail::Malformed,
@@ -67,15 +67,32 @@ fn mail_in(command: Command) -> Mail
 }
 
 impl View {
+    // The AUTH line, and the MAIL line, that the view is of.
+    fn auth(self) -> Auth
+        ensures { λ r. ⌜ r ≡ authIn self ⌝ }
+    {
+        match self {
+            View::Command(command) => auth_command(command),
+            View::Response(_) => Auth::Malformed,
+            View::Unread => Auth::Malformed,
+        }
+    }
+
+    fn mail(self) -> Mail
+        ensures { λ r. ⌜ r ≡ mailIn self ⌝ }
+    {
+        match self {
+            View::Command(command) => mail_command(command),
+            View::Response(_) => Mail::Malformed,
+            View::Unread => Mail::Malformed,
+        }
+    }
+
     // The mechanism that the line names, in twenty octets; NUL alone where it names none.
     pub fn mechanism(self, line: &[u8]) -> [u8; 20]
         ensures { λ r. ⌜ r ≡ padded (mechanismText self (now (line .entry))) ⌝ }
     {
-        match self {
-            View::Command(command) => name_at(line, auth_in(command)),
-            View::Response(_) => name_at(line, Auth::Malformed),
-            View::Unread => name_at(line, Auth::Malformed),
-        }
+        name_at(line, self.auth())
     }
 
     // Decodes the response that the line has to the start of out.
@@ -83,7 +100,7 @@ impl View {
         ensures { λ r. ⌜ (r ≡ Base64.decoded (responseText self (now (line .entry))) (length (now (out .entry)))) × (now (out .exit) ≡ Base64.decodedInto (responseText self (now (line .entry))) (now (out .entry))) ⌝ }
     {
         match self {
-            View::Command(command) => decode_initial(line, auth_in(command), out),
+            View::Command(command) => decode_initial(line, auth_command(command), out),
             View::Response(_) => base64::decode(line, out),
             View::Unread => decode_initial(line, Auth::Malformed, out),
         }
@@ -93,10 +110,6 @@ impl View {
     pub fn decode_address(self, line: &[u8], out: &mut [u8]) -> Decoded
         ensures { λ r. ⌜ (r ≡ Xtext.decoded (relayText self (now (line .entry))) (length (now (out .entry)))) × (now (out .exit) ≡ Xtext.decodedInto (relayText self (now (line .entry))) (now (out .entry))) ⌝ }
     {
-        match self {
-            View::Command(command) => mail::decode_address(line, mail_in(command), out),
-            View::Response(_) => mail::decode_address(line, Mail::Malformed, out),
-            View::Unread => mail::decode_address(line, Mail::Malformed, out),
-        }
+        mail::decode_address(line, self.mail(), out)
     }
 }

@@ -109,6 +109,7 @@ pub fn answer(a: Answer, p: Profile, bytes: &[u8], view: View, line: &[u8]) {
             numbers(a, 0);
         }
         Answer::Reply(_) => heard(a, p, bytes),
+        Answer::EmptyChallenge => heard(a, p, bytes),
         Answer::Challenge => heard(a, p, bytes),
     }
 }

@@ -1,4 +1,3 @@
-use mathlib.Core.Path.{sym, _∙_}
 use borrow.Author.Needs.{needs}
 use Rattle.session.proofs.Session.relays.Statement.{statement}
 use Rattle.session.proofs.Session.relays.Tie as tie
@@ -8,5 +7,4 @@ relays-spec =
     tie.close
     (tie.spec
     (λ c κs. search needs)
-    (λ c. rw (sym (c .before .is-signed-in .ensures) ∙ c .if1 .taken))
-    (λ c. rw (sym (c .before .is-signed-in .ensures) ∙ c .if1 .left)))
+    (λ c. rw (c .relayed .ensures)))

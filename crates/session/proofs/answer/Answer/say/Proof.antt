@@ -21,7 +21,11 @@ returns-4 c = rw (c .before .before .before .before .before .self .given .1) (c 
 
 returns-5 : tie.Need-returns-5
 unfolding heard
-returns-5 c = rw (c .before .before .before .before .enum-told4 .given .1) (c .before .before .write-challenge .ensures)
+returns-5 c = rw (c .before .before .before .before .before .enum-told4 .given .1) (c .before .before .write-challenge .ensures)
+
+returns-6 : tie.Need-returns-6
+unfolding heard
+returns-6 c = rw (c .before .before .before .before .enum-told5 .given .1) (c .before .before .write-challenge2 .ensures)
 
 pub say-spec : {M : Type 1} → statement M
 say-spec =
@@ -39,6 +43,9 @@ say-spec =
     (λ c. search needs)
     (λ c κs. search needs)
     (λ c. search needs)
+    (λ c. search needs)
+    (λ c κs. search needs)
+    (λ c. search needs)
     (λ c κs. search needs)
     (λ c. search needs)
     returns
@@ -49,4 +56,6 @@ say-spec =
     (λ c. search needs)
     returns-4
     (λ c. search needs)
-    returns-5)
+    returns-5
+    (λ c. search needs)
+    returns-6)

@@ -14,7 +14,7 @@ decode-response-spec =
     (λ c. search needs)
     (λ c κs. search needs)
     (λ c. search needs)
-    (λ c. rw (c .before .before .before .before .before .before .self .given .1) (rw (c .before .before .before .before .auth-in .ensures) at (c .before .before .decode-initial .ensures)))
+    (λ c. rw (c .before .before .before .before .before .before .self .given .1) (rw (c .before .before .before .before .auth-command .ensures) at (c .before .before .decode-initial .ensures)))
     (λ c. search needs)
     (λ c. rw (c .before .before .before .before .enum-told .given .1) (c .before .before .decode .ensures))
     (λ c. search needs)
