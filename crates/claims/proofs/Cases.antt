@@ -1,11 +1,10 @@
 -- The cases marked P, by computation. Assumes nothing.
 use mathlib.Core.Path.{refl}
 use Rattle.octets.specs.Ascii.{capital}
-use Rattle.octets.specs.Lists.{every, same, before, after}
+use Rattle.octets.specs.Lists.{every, oneTo, same, before, after}
 use Rattle.base64.specs.Base64
 use Rattle.xtext.specs.Xtext
 use Rattle.profile.specs.Texts.{words, reply}
-use Rattle.lines.specs.Mechanism.{mechanism}
 use Rattle.lines.specs.Verb.{verb, verbOf}
 use Rattle.lines.specs.Auth.{initial, arguments, auth}
 use Rattle.lines.specs.Command.{forbidden, understood, command}
@@ -20,5 +19,5 @@ use Rattle.session.specs.Line.{afterLine}
 use Rattle.claims.specs.Cases.{Cases}
 
 pub cases-hold : Cases
-unfolding every same before after capital words reply mechanism verb verbOf initial arguments auth forbidden understood command response viewIn queryOctets heard onAuth onCommand onResponse afterLine Base64.alphabet Base64.value Base64.groupOf Base64.valid Base64.octets Xtext.digits Xtext.digit Xtext.number Xtext.valid Xtext.octets
+unfolding every oneTo same before after capital words reply verb verbOf initial arguments auth forbidden understood command response viewIn queryOctets heard onAuth onCommand onResponse afterLine Base64.alphabet Base64.value Base64.groupOf Base64.valid Base64.octets Xtext.digits Xtext.digit Xtext.number Xtext.valid Xtext.octets
 cases-hold = refl

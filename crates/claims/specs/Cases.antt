@@ -1,12 +1,13 @@
--- "The cases marked P are proved of the definitions as a single table under one claim" (document 01, "Both sides of each line").
+-- "The cases marked P are proved of the definitions as a single table under one claim" (document 01): those of its "Both sides of each line".
 use mathlib.Core.Path.{_≡_}
-use mathlib.Core.Bool.{true, cond}
+use mathlib.Core.Bool.{Bool, true, false, cond}
 use mathlib.Core.List.{List, [], _∷_, _++_, map}
 use Prim.Native.Nat.{ℕ}
 use Prim.Native.String.{String}
 use Rattle.octets.specs.Ascii.{ascii}
 use Rattle.base64.specs.Base64
 use Rattle.xtext.specs.Xtext
+use Rattle.profile.specs.Numbers.{refusalNumber}
 use Rattle.profile.specs.Texts.{crlf}
 use Rattle.profile.specs.declared.Profile.{Profile}
 use Rattle.profile.specs.declared.Profile.the-variants.{Smtp, Pop3}
@@ -25,12 +26,12 @@ use Rattle.session.specs.declared.view.Offer.the-variants as Offers
 -- what is put in
 pub data Input : Type 0 where
   -- a text, to be decoded
-  isBase64 : String → Input
-  isXtext : String → Input
+  base64Text : String → Input
+  xtextText : String → Input
   -- a mechanism's name
-  isMechanism : String → Input
-  -- the lines of a connection, one after the other; the last one counts
-  hears : Profile → List String → Input
+  mechanismName : String → Input
+  -- the lines that a client sends, one after the other; the last one counts
+  clientLines : Profile → List String → Input
 
 -- what comes out
 pub data Outcome : Type 0 where
@@ -38,22 +39,25 @@ pub data Outcome : Type 0 where
   taken : Outcome
   -- the octets that a text stands for
   gives : List ℕ → Outcome
-  -- a line: it is passed on; the service is asked, with so many octets and these; the client hears a text
+  -- of a line: nothing was sent; a refusal's number; it is passed on; the service is asked, whether only to start, with so many octets and
+  -- these; the client hears a text
+  nothing : Outcome
+  refusal : ℕ → Outcome
   forwards : Outcome
-  asks : ℕ → List ℕ → Outcome
-  says : List ℕ → Outcome
+  asks : Bool → ℕ → List ℕ → Outcome
+  hears : List ℕ → Outcome
 
 -- a connection is protected, and the mechanism that its AUTH line names is client-first and needs protection; the ticket is 1
 abbrev pub offered : Offer
 offered = Offers.Present true true
 
 abbrev pub answered : Profile → List ℕ → Answer → Outcome
-answered p o (Answers.Refused r) = refused
+answered p o (Answers.Refused r) = refusal (refusalNumber r)
 answered p o (Answers.Forward i n) = forwards
-answered p o (Answers.Query t b n) = asks n o
-answered p o (Answers.Reply e) = says (heard p [] (Answers.Reply e))
-answered p o Answers.EmptyChallenge = says (heard p [] Answers.EmptyChallenge)
-answered p o Answers.Challenge = says (heard p [] Answers.Challenge)
+answered p o (Answers.Query t b n) = asks b n o
+answered p o (Answers.Reply e) = hears (heard p [] (Answers.Reply e))
+answered p o Answers.EmptyChallenge = hears (heard p [] Answers.EmptyChallenge)
+answered p o Answers.Challenge = hears (heard p [] Answers.Challenge)
 
 -- c: what came of the line before
 abbrev pub sends : Profile → Session → Outcome → List String → Outcome
@@ -62,10 +66,10 @@ sends p s c (l ∷ ls) =
     sends p (afterLine s (view s (ascii l)) offered 1 .session) (answered p (queryOctets (view s (ascii l)) (ascii l)) (afterLine s (view s (ascii l)) offered 1 .answer)) ls
 
 abbrev pub outcome : Input → Outcome
-outcome (isBase64 t) = cond (Base64.valid (ascii t)) (gives (Base64.octets (ascii t))) refused
-outcome (isXtext t) = cond (Xtext.valid (ascii t)) (gives (Xtext.octets (ascii t))) refused
-outcome (isMechanism n) = cond (mechanism (ascii n)) taken refused
-outcome (hears p ls) = sends p (opened p true) refused ls
+outcome (base64Text t) = cond (Base64.valid (ascii t)) (gives (Base64.octets (ascii t))) refused
+outcome (xtextText t) = cond (Xtext.valid (ascii t)) (gives (Xtext.octets (ascii t))) refused
+outcome (mechanismName n) = cond (mechanism (ascii n)) taken refused
+outcome (clientLines p ls) = sends p (opened p true) nothing ls
 
 pub record Row : Type 0 where
   pub input : Input
@@ -76,35 +80,35 @@ row i o = record { input = i; expected = o }
 
 -- an exchange in which an answer is awaited
 abbrev pub smtp : String → Input
-smtp l = hears Smtp ("EHLO a.example" ∷ "AUTH PLAIN" ∷ l ∷ [])
+smtp l = clientLines Smtp ("EHLO a.example" ∷ "AUTH PLAIN" ∷ l ∷ [])
 
 abbrev pub pop3 : String → Input
-pop3 l = hears Pop3 ("AUTH PLAIN" ∷ l ∷ [])
+pop3 l = clientLines Pop3 ("AUTH PLAIN" ∷ l ∷ [])
 
 abbrev pub cases : List Row
 cases =
     -- "P `Zm9v` is foo; P `Zg==` is f; P `Zh==` refused; P `=AAA` refused; P `AAA=BBB` refused; P an empty answer is zero octets."
-    row (isBase64 "Zm9v") (gives (ascii "foo"))
-    ∷ row (isBase64 "Zg==") (gives (ascii "f"))
-    ∷ row (isBase64 "Zh==") refused
-    ∷ row (isBase64 "=AAA") refused
-    ∷ row (isBase64 "AAA=BBB") refused
-    ∷ row (smtp "") (asks 0 [])
-    ∷ row (pop3 "") (asks 0 [])
+    row (base64Text "Zm9v") (gives (ascii "foo"))
+    ∷ row (base64Text "Zg==") (gives (ascii "f"))
+    ∷ row (base64Text "Zh==") refused
+    ∷ row (base64Text "=AAA") refused
+    ∷ row (base64Text "AAA=BBB") refused
+    ∷ row (smtp "") (asks false 0 [])
+    ∷ row (pop3 "") (asks false 0 [])
     -- "P "=" as initial response: zero octets; P "=" as an answer: 501."
-    ∷ row (hears Smtp ("EHLO a.example" ∷ "AUTH PLAIN =" ∷ [])) (asks 0 [])
-    ∷ row (hears Pop3 ("AUTH PLAIN =" ∷ [])) (asks 0 [])
-    ∷ row (smtp "=") (says (ascii "501 5.5.2 Syntax error" ++ crlf))
-    ∷ row (pop3 "=") (says (ascii "-ERR Syntax error" ++ crlf))
+    ∷ row (clientLines Smtp ("EHLO a.example" ∷ "AUTH PLAIN =" ∷ [])) (asks false 0 [])
+    ∷ row (clientLines Pop3 ("AUTH PLAIN =" ∷ [])) (asks false 0 [])
+    ∷ row (smtp "=") (hears (ascii "501 5.5.2 Syntax error" ++ crlf))
+    ∷ row (pop3 "=") (hears (ascii "-ERR Syntax error" ++ crlf))
     -- "P `e+3Dmc2@example.com` is e=mc2@example.com (001); P `+3d` refused."
-    ∷ row (isXtext "e+3Dmc2@example.com") (gives (ascii "e=mc2@example.com"))
-    ∷ row (isXtext "+3d") refused
+    ∷ row (xtextText "e+3Dmc2@example.com") (gives (ascii "e=mc2@example.com"))
+    ∷ row (xtextText "+3d") refused
     -- "P QUIT while an answer is awaited is three octets for the service."
-    ∷ row (smtp "QUIT") (asks 3 (0x41 ∷ 0x42 ∷ 0x13 ∷ []))
-    ∷ row (pop3 "QUIT") (asks 3 (0x41 ∷ 0x42 ∷ 0x13 ∷ []))
+    ∷ row (smtp "QUIT") (asks false 3 (0x41 ∷ 0x42 ∷ 0x13 ∷ []))
+    ∷ row (pop3 "QUIT") (asks false 3 (0x41 ∷ 0x42 ∷ 0x13 ∷ []))
     -- "P mechanism names: 20 letters pass, 21 do not."
-    ∷ row (isMechanism "ABCDEFGHIJKLMNOPQRST") taken
-    ∷ row (isMechanism "ABCDEFGHIJKLMNOPQRSTU") refused
+    ∷ row (mechanismName "ABCDEFGHIJKLMNOPQRST") taken
+    ∷ row (mechanismName "ABCDEFGHIJKLMNOPQRSTU") refused
     ∷ []
 
 -- the claim: every row's input comes to what is expected

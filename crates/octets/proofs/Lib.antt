@@ -6,3 +6,4 @@ pub mod Cases
 pub mod Answers
 pub mod Words
 pub mod Padded
+pub mod Every

@@ -2,8 +2,8 @@
 use mathlib.Core.Bool.{Bool, true, false, cond, _&&_, _||_}
 use mathlib.Core.List.{List, [], _∷_, _++_}
 use Prim.Native.Nat.{ℕ, _<_}
-use lib.Dec.{eqb}
-use lib.ListN.{take, replicate}
+use lib.Dec.{leb, eqb}
+use lib.ListN.{length, take, replicate}
 
 -- every number of the list is an octet
 abbrev pub Octets : List ℕ → Type 0
@@ -23,6 +23,10 @@ holds x (y ∷ l) = eqb y x || holds x l
 unfoldable pub every : {A : Type 0} → (A → Bool) → List A → Bool
 every f [] = true
 every f (x ∷ l) = f x && every f l
+
+-- whether a list has one to n elements, each of which passes a test
+unfoldable pub oneTo : ℕ → (ℕ → Bool) → List ℕ → Bool
+oneTo n f l = leb 1 (length l) && leb (length l) n && every f l
 
 -- whether two lists are the same
 unfoldable pub same : List ℕ → List ℕ → Bool

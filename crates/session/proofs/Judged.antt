@@ -8,17 +8,16 @@ use native.Mathlib.Omega.{arith}
 use borrow.Author.Tests.{leb-true, le-leb, ltb-true}
 use lib.Dec.{leb, ltb, eqb}
 use lib.ListN.{length, replicate}
-use Rattle.octets.specs.Lists.{isEmpty, every, same, paddedTo}
+use Rattle.octets.specs.Lists.{isEmpty, same, paddedTo}
 use Rattle.octets.proofs.Cases.{both, picked}
-use Rattle.octets.proofs.Padded.{before-padded}
 use Rattle.octets.proofs.Words.{same-refl}
+use Rattle.octets.proofs.Every.{at-most, unpadded}
 use Rattle.profile.specs.declared.Reply.{Reply}
 use Rattle.profile.specs.declared.Reply.the-variants as Replies
 use Rattle.profile.specs.declared.numbers.Refusal.{Refusal}
 use Rattle.profile.specs.declared.numbers.Refusal.the-variants as Refusals
 use Rattle.profile.specs.declared.numbers.Verdict.{Verdict}
 use Rattle.profile.specs.declared.numbers.Verdict.the-variants as Verdicts
-use Rattle.lines.proofs.Lists.{not-held}
 use Rattle.session.specs.declared.Phase.{Phase}
 use Rattle.session.specs.declared.Phase.the-variants as Phases
 use Rattle.session.specs.declared.Session.{Session}
@@ -35,10 +34,8 @@ use Rattle.session.specs.WellFormed.{sentWithin, nameWithin, wellFormed}
 
 -- a name that is kept in 64 octets is read back
 pub name-kept : (s : Session) (n : List ℕ) → isName n ≡ true → nameOf (named s n) ≡ n
-unfolding isName nameOf
-name-kept s n h =
-    let k = both (leb 1 (length n) && leb (length n) 64) (every graphic n) h in
-    before-padded 64 n (leb-true (length n) 64 (both (leb 1 (length n)) (leb (length n) 64) (k .0) .1)) (not-held graphic 0 n refl (k .1))
+unfolding nameOf
+name-kept s n h = unpadded longestName graphic n refl h
 
 pub record Judged (s : Session) (g : Bool) (d : List ℕ) (r : Stepped) : Type 0 where
   -- how the session stands after it is told by the answer
@@ -212,11 +209,8 @@ module _ (s : Session) (d : List ℕ) where
 
   -- a verdict's challenge is not too long
   given-short : (v : Verdict) → given v d ≡ true → length d ≤ longestChallenge
-  unfolding isName
   given-short Verdicts.Challenge g = leb-true (length d) longestChallenge g
-  given-short Verdicts.Success g =
-      let k = both (leb 1 (length d) && leb (length d) longestName) (every graphic d) g in
-      omega (arith, leb-true (length d) longestName (both (leb 1 (length d)) (leb (length d) longestName) (k .0) .1))
+  given-short Verdicts.Success g = omega (arith, at-most longestName graphic d g)
   given-short Verdicts.Rejected g = empty-short d g
   given-short Verdicts.Temporary g = empty-short d g
   given-short Verdicts.Transition g = empty-short d g

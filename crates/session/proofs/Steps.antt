@@ -2,12 +2,14 @@
 use mathlib.Core.Path.{_≡_, refl, sym, _∙_, ap}
 use mathlib.Core.Bool.{Bool, true, false, cond}
 use mathlib.Core.List.{List, [], _∷_}
-use Prim.Native.Nat.{ℕ, suc, _<_, _≤_}
+use Prim.Native.Nat.{ℕ, suc, _+_}
 use native.Mathlib.Omega.{arith}
-use borrow.Author.Tests.{eq-eqb, ne-eqb, le-leb, lt-leb}
+use borrow.Author.Tests.{eq-eqb, ne-eqb}
 use lib.Dec.{eqb}
-use lib.ListN.{length}
-use Rattle.octets.specs.Lists.{isEmpty, every}
+use lib.ListN.{length, drop}
+use lib.Seq.{slice}
+use Rattle.octets.specs.Lists.{isEmpty, before}
+use Rattle.octets.proofs.Words.{before-take}
 use Rattle.profile.specs.declared.Reply.the-variants as Replies
 use Rattle.profile.specs.declared.numbers.Refusal.the-variants as Refusals
 use Rattle.profile.specs.declared.numbers.Verdict.{Verdict}
@@ -17,7 +19,7 @@ use Rattle.session.specs.declared.Phase.the-variants as Phases
 use Rattle.session.specs.declared.Session.{Session}
 use Rattle.session.specs.Change.{says, refuses, stepped}
 use Rattle.session.specs.Mail.{begins, onMail}
-use Rattle.session.specs.Verdict.{graphic, isName, given, accepted, onVerdict, onTicket, afterVerdict}
+use Rattle.session.specs.Verdict.{given, accepted, onVerdict, onTicket, afterVerdict}
 
 -- MAIL, by whether a transaction is open
 module _ (s : Session) (m : Mail) where
@@ -34,22 +36,8 @@ pub no-octets : (d : List ℕ) → eqb (length d) 0 ≡ isEmpty d
 no-octets [] = refl
 no-octets (x ∷ d) = ne-eqb (suc (length d)) 0 (λ e. omega arith)
 
--- the lengths of names
-module _ (n : List ℕ) where
-  pub too-short : length n < 1 → false ≡ isName n
-  unfolding isName
-  too-short h = rw (lt-leb _ _ h)
-
-  pub too-long : 64 < length n → false ≡ isName n
-  unfolding isName
-  too-long h = let k : 1 ≤ length n = omega arith in rw (le-leb _ _ k, lt-leb _ _ h)
-
-  pub fitting : 1 ≤ length n → length n ≤ 64 → every graphic n ≡ isName n
-  unfolding isName
-  fitting h k = rw (le-leb _ _ h, le-leb _ _ k)
-
 -- a verdict, by whether its data are in order and whether the session waits on the ticket
-module _ (s : Session) (t : ℕ) (v : Verdict) (d : List ℕ) where
+module _ (s : Session) (v : Verdict) (d : List ℕ) where
   pub well-given : (k : ℕ) → given v d ≡ true → accepted s k v d ≡ onVerdict s k v d
   unfolding onVerdict
   well-given k e = rw e
@@ -58,6 +46,7 @@ module _ (s : Session) (t : ℕ) (v : Verdict) (d : List ℕ) where
   unfolding onVerdict
   ill-given k e = rw e
 
+module _ (s : Session) (t : ℕ) (v : Verdict) (d : List ℕ) where
   pub no-ticket : (p : Phase) → s .phase ≡ p → stepped s (refuses s Refusals.NoTicket) ≡ onTicket p s t v d → stepped s (refuses s Refusals.NoTicket) ≡ afterVerdict s t v d
   unfolding afterVerdict
   no-ticket p e f = f ∙ ap (λ (q : Phase). onTicket q s t v d) (sym e)
@@ -73,3 +62,7 @@ module _ (s : Session) (t : ℕ) (v : Verdict) (d : List ℕ) where
 
     pub other-ticket : (u ≡ t → ⊥) → stepped s (refuses s Refusals.NoTicket) ≡ afterVerdict s t v d
     other-ticket h = tested false (ne-eqb u t h)
+
+-- the part of a kept name that is read back
+pub name-part : (l : List ℕ) (k : ℕ) → k ≡ 0 + length (before 0x00 (drop 0 l)) → slice 0 k l ≡ before 0x00 l
+name-part l k e = let z : k ≡ length (before 0x00 l) = omega arith in rw z (sym (before-take 0x00 l))

@@ -22,7 +22,7 @@ abbrev pub wrongMoment : Profile → Session → Bool
 wrongMoment Smtp s = signedIn (s .phase) || not (s .greeted) || s .transaction
 wrongMoment Pop3 s = signedIn (s .phase)
 
--- "mechanism absent, or needs protection"
+-- "mechanism available": neither "mechanism absent, or needs protection"
 abbrev pub available : Session → Offer → Bool
 available s Absent = false
 available s (Present first guarded) = s .protected || not guarded

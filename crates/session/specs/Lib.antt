@@ -1,4 +1,4 @@
--- The definitions that the promises of session cite.
+-- The definitions that the promises of session cite,
 pub mod Limits
 pub mod Session
 pub mod View
@@ -13,6 +13,7 @@ pub mod Response
 pub mod Line
 pub mod Verdict
 pub mod MailEnded
+-- and those that its laws cite besides.
 pub mod Standing
 pub mod Named
 pub mod WellFormed

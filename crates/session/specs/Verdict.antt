@@ -4,7 +4,7 @@ use mathlib.Core.List.{List}
 use Prim.Native.Nat.{ℕ, _+_}
 use lib.Dec.{leb, ltb, eqb}
 use lib.ListN.{length}
-use Rattle.octets.specs.Lists.{isEmpty, every}
+use Rattle.octets.specs.Lists.{isEmpty, oneTo}
 use Rattle.profile.specs.declared.Reply.the-variants as Replies
 use Rattle.profile.specs.declared.numbers.Refusal.the-variants as Refusals
 use Rattle.profile.specs.declared.numbers.Verdict.{Verdict}
@@ -23,8 +23,8 @@ use Rattle.session.specs.Change.{moves, fails, refuses, stepped}
 abbrev pub graphic : ℕ → Bool
 graphic x = leb 0x21 x && leb x 0x7E
 
-unfoldable pub isName : List ℕ → Bool
-isName n = leb 1 (length n) && leb (length n) longestName && every graphic n
+abbrev pub isName : List ℕ → Bool
+isName n = oneTo longestName graphic n
 
 -- "Verdicts: challenge (0 to 9,210 octets); success with a name ..; rejected, temporary, transition, weak, these four with no data."
 abbrev pub given : Verdict → List ℕ → Bool

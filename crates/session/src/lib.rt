@@ -4,12 +4,15 @@
 // Then it decodes what the line hands on (`View::decode_response` for a query, `View::decode_address` for a MAIL), or writes what the client
 // hears (`Answer::say`). A verdict is a step of its own (`verdict`), and so is the end of a transaction (`mail_ended`).
 ghost use mathlib.Core.Path.{_≡_};
-ghost use Rattle.session.specs.Session.{opened, signedIn};
+ghost use lib.ListN.{length};
+ghost use Rattle.octets.specs.Answers.{written, encoded};
+ghost use Rattle.session.specs.Session.{opened, signedIn, nameOf};
 ghost use Rattle.session.specs.View.{view};
 ghost use Rattle.session.specs.Line.{afterLine};
 ghost use Rattle.session.specs.Verdict.{afterVerdict};
 ghost use Rattle.session.specs.MailEnded.{afterMail};
 use answer::Answer;
+use octets::Encoded;
 use profile::Profile;
 use profile::numbers::Refusal;
 use profile::numbers::Verdict;
@@ -52,10 +55,10 @@ pub struct Stepped {
 }
 
 impl Session {
-    // How many challenges an exchange sends.
+    // An exchange sends at most so many challenges.
     pub const MOST_CHALLENGES: u8 = 16;
 
-    // How many octets a verdict's challenge and its name have.
+    // A verdict's challenge, and its name, have at most so many octets.
     pub const LONGEST_CHALLENGE: usize = 9210;
 
     pub const LONGEST_NAME: usize = 64;
@@ -87,6 +90,14 @@ impl Session {
             Phase::Awaiting { .. } => false,
             Phase::Waiting { .. } => false,
         }
+    }
+
+    // Writes the name to the start of out; nothing where nobody is signed in. Where it does not fit, out is left as it is.
+    pub fn write_name(self, out: &mut [u8]) -> Encoded
+        ensures { λ r. ⌜ (r ≡ encoded (nameOf self) (length (now (out .entry))) 0) × (now (out .exit) ≡ written (now (out .entry)) 0 (nameOf self)) ⌝ }
+    {
+        let name = self.name;
+        octets::write(octets::part(&name, 0, octets::find(&name, 0, 0)), out, 0)
     }
 
     // What the session sees of a line.

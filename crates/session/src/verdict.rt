@@ -1,6 +1,7 @@
 // A verdict on the ticket that a session waits on.
 ghost use mathlib.Core.Path.{_≡_};
 ghost use Rattle.octets.specs.Lists.{paddedTo};
+ghost use Rattle.session.specs.Limits.{longestName};
 ghost use Rattle.session.specs.Session.{named};
 ghost use Rattle.session.specs.Verdict.{graphic, isName, given, challenged, accepted, onVerdict};
 use crate::Phase;
@@ -38,8 +39,8 @@ fn is_name(bytes: &[u8]) -> bool
     true
 }
 
-// Whether a verdict's data are as it needs them.
-fn is_given(verdict: Verdict, bytes: &[u8]) -> bool
+// Whether a verdict has the data that it may have.
+fn has_valid_data(verdict: Verdict, bytes: &[u8]) -> bool
     ensures { λ r. ⌜ r ≡ given verdict (now (bytes .entry)) ⌝ }
 {
     match verdict {
@@ -54,10 +55,10 @@ fn is_given(verdict: Verdict, bytes: &[u8]) -> bool
 
 // A name in 64 octets.
 fn padded(name: &[u8]) -> [u8; 64]
-    ensures { λ r. ⌜ r ≡ paddedTo 64 (now (name .entry)) ⌝ }
+    ensures { λ r. ⌜ r ≡ paddedTo longestName (now (name .entry)) ⌝ }
 {
     let mut kept: [u8; 64] = [0; 64];
-    octets::write(octets::part(name, 0, 64), &mut kept, 0);
+    octets::write(octets::part(name, 0, Session::LONGEST_NAME), &mut kept, 0);
     kept
 }
 
@@ -100,7 +101,7 @@ impl Session {
     pub(crate) fn on_verdict(self, sent: u8, verdict: Verdict, bytes: &[u8]) -> Stepped
         ensures { λ r. ⌜ r ≡ onVerdict self sent verdict (now (bytes .entry)) ⌝ }
     {
-        if is_given(verdict, bytes) {
+        if has_valid_data(verdict, bytes) {
             self.accepted(sent, verdict, bytes)
         } else {
             self.stepped(self.refuses(Refusal::NotListed))

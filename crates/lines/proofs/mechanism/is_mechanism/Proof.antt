@@ -5,9 +5,8 @@ use borrow.Author.Needs.{needs}
 use borrow.Author.Tests.{not-true, not-false}
 use lib.ListN.{length, drop}
 use Rattle.octets.specs.Lists.{every}
+use Rattle.octets.proofs.Every.{every-step, every-stop, every-end, too-short, too-long, fitting}
 use Rattle.lines.specs.Mechanism.{mechChar, mechanism}
-use Rattle.lines.proofs.Lists.{every-step, every-stop, every-end}
-use Rattle.lines.proofs.Names.{too-short, too-long, fitting}
 use Rattle.lines.proofs.mechanism.is_mechanism.Statement.{statement}
 use Rattle.lines.proofs.mechanism.is_mechanism.Tie as tie
 
@@ -38,9 +37,9 @@ is-mechanism-spec =
     (tie.spec
     Inv-loop
     μ-loop
-    (λ c. too-short _ (omega arith))
-    (λ c. too-long _ (omega arith))
-    (λ c. fitting _ (omega arith) (omega arith))
+    (λ c. too-short 20 mechChar _ (omega arith))
+    (λ c. too-long 20 mechChar _ (omega arith))
+    (λ c. fitting 20 mechChar _ (omega arith) (omega arith))
     (λ c. search needs)
     (λ c κs. search needs)
     returns-3

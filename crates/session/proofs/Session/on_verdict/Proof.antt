@@ -12,5 +12,5 @@ on-verdict-spec =
     (λ c κs. search needs)
     (λ c κs. search needs)
     (λ c κs. search needs)
-    (λ c. let a = c .before .before .before .before .args in c .accepted .ensures ∙ well-given _ 0 _ _ _ (sym (c .before .before .is-given .ensures) ∙ c .before .if1 .taken))
-    (λ c. (rw (c .before .refuses .ensures) at (c .stepped .ensures)) ∙ ill-given _ 0 _ _ _ (sym (c .before .before .before .is-given .ensures) ∙ c .before .before .if1 .left)))
+    (λ c. c .accepted .ensures ∙ well-given _ _ _ _ (sym (c .before .before .has-valid-data .ensures) ∙ c .before .if1 .taken))
+    (λ c. (rw (c .before .refuses .ensures) at (c .stepped .ensures)) ∙ ill-given _ _ _ _ (sym (c .before .before .before .has-valid-data .ensures) ∙ c .before .before .if1 .left)))

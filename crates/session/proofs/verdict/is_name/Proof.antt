@@ -5,9 +5,8 @@ use borrow.Author.Needs.{needs}
 use borrow.Author.Tests.{not-true, not-false}
 use lib.ListN.{length, drop}
 use Rattle.octets.specs.Lists.{every}
-use Rattle.lines.proofs.Lists.{every-step, every-stop, every-end}
+use Rattle.octets.proofs.Every.{every-step, every-stop, every-end, too-short, too-long, fitting}
 use Rattle.session.specs.Verdict.{graphic, isName}
-use Rattle.session.proofs.Steps.{too-short, too-long, fitting}
 use Rattle.session.proofs.verdict.is_name.Statement.{statement}
 use Rattle.session.proofs.verdict.is_name.Tie as tie
 
@@ -35,9 +34,9 @@ is-name-spec =
     (tie.spec
     Inv-loop
     μ-loop
-    (λ c. too-short _ (omega arith))
-    (λ c. too-long _ (omega arith))
-    (λ c. fitting _ (omega arith) (omega arith))
+    (λ c. too-short 64 graphic _ (omega arith))
+    (λ c. too-long 64 graphic _ (omega arith))
+    (λ c. fitting 64 graphic _ (omega arith) (omega arith))
     (λ c. search needs)
     (λ c κs. search needs)
     returns-3

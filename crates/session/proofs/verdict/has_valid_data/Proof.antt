@@ -1,10 +1,10 @@
 use borrow.Author.Needs.{needs}
 use Rattle.session.proofs.Steps.{no-octets}
-use Rattle.session.proofs.verdict.is_given.Statement.{statement}
-use Rattle.session.proofs.verdict.is_given.Tie as tie
+use Rattle.session.proofs.verdict.has_valid_data.Statement.{statement}
+use Rattle.session.proofs.verdict.has_valid_data.Tie as tie
 
-pub is-given-spec : {M : Type 1} → statement M
-is-given-spec =
+pub has-valid-data-spec : {M : Type 1} → statement M
+has-valid-data-spec =
     tie.close
     (tie.spec
     (λ c. search needs)
