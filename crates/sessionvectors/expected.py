@@ -17,7 +17,11 @@ LARGEST = 2**64 - 1
 TEXTS = {event: {"smtp": smtp, "pop3": "-ERR " + smtp.split(" ", 2)[2] if pop3 == "same" else pop3} for event, smtp, pop3 in papers.REPLIES}
 VERDICTS = dict(zip(b"csrtpw", ("challenge", "success", "rejected", "temporary", "transition", "weak")))
 IDENTITIES = {"": 0, " <>": 1, " none": 2, " address": 3}
-SERVER = {b"PLAIN": ("client", "protected"), b"CRAM-MD5": ("server", "any")}
+SERVER = {b"PLAIN": ("client", "protected"), b"CRAM-MD5": ("server", "any"), b"CLIENT-ANY": ("client", "any"), b"SERVER-TLS": ("server", "protected")}
+
+
+def shown(octets):
+    return papers.quoted(octets) if len(octets) <= 100 else f"{len(octets)} octets"
 
 
 class Refused(Exception):
@@ -34,16 +38,16 @@ class Connection:
     # what is given: the text of the row, and its six numbers (refusal, kind, ticket, starts, length, identity)
 
     def forward(self, identity="", octets=None):
-        shown = "" if octets is None else f" {papers.quoted(octets)}"
-        return f"forward{identity}{shown}", (0, 0, 0, 0, len(octets or b""), IDENTITIES[identity])
+        octets_shown = "" if octets is None else f" {shown(octets)}"
+        return f"forward{identity}{octets_shown}", (0, 0, 0, 0, len(octets or b""), IDENTITIES[identity])
 
     def hears(self, text):
-        return papers.quoted(text + b"\r\n"), (0, 2, 0, 0, len(text) + 2, 0)
+        return shown(text + b"\r\n"), (0, 2, 0, 0, len(text) + 2, 0)
 
     def reply(self, event):
         return self.hears(TEXTS[event][self.profile].encode())
 
-    def fails(self, event):
+    def ends(self, event):
         self.sent = self.waits = None
         return self.reply(event)
 
@@ -56,7 +60,7 @@ class Connection:
             raise Refused(7)
         self.sent, self.waits, self.last = self.sent or 0, self.next, self.next
         self.next += 1
-        return f"query {papers.quoted(octets)}", (0, 1, self.last, starts, len(octets), 0)
+        return f"query {shown(octets)}", (0, 1, self.last, starts, len(octets), 0)
 
     def auth(self, line):
         if self.name is not None or self.profile == "smtp" and (not self.greeted or self.transaction):
@@ -111,10 +115,10 @@ class Connection:
             return self.command(line)
         reading, octets = papers.read_response(self.profile, line)
         if reading == "too long":
-            return self.fails("answer too long")
+            return self.ends("answer too long")
         if reading == "cancelled":
-            return self.fails('"*"')
-        return self.ask(octets[0]) if octets else self.fails("grammar or base64")
+            return self.ends('"*"')
+        return self.ask(octets[0]) if octets else self.ends("grammar or base64")
 
     def verdict(self, ticket, verdict, octets):
         if self.waits != ticket:
@@ -122,28 +126,35 @@ class Connection:
         if verdict == "challenge":
             if len(octets) > 9210:
                 raise Refused(5)
-            return self.challenge(octets) if self.sent < 16 else self.fails("temporary")
+            return self.challenge(octets) if self.sent < 16 else self.ends("temporary")
         if verdict == "success":
             if not 1 <= len(octets) <= 64 or any(not 0x21 <= x <= 0x7E for x in octets):
                 raise Refused(5)
             self.name = octets
         elif octets:
             raise Refused(5)
-        return self.fails(verdict)
+        return self.ends(verdict)
 
     def event(self, kind, octets):
         if kind == ord(">"):
             return self.line(octets)
         if kind in VERDICTS:
             return self.verdict(self.last, VERDICTS[kind], octets)
-        if kind == ord("o"):
-            return self.verdict(77, "success", octets)
-        if kind == ord("m"):
-            self.next = LARGEST
+        if kind == ord("#"):
+            size, begin = octets.split(b" ", 1)
+            return self.line(begin + b"A" * (int(size) - len(begin)))
+        if kind == ord("C"):
+            return self.verdict(self.last, "challenge", b"A" * int(octets))
+        if kind in b"ob":
+            return self.verdict(77 if kind == ord("o") else (self.last - 1) % 2**64, "success", octets)
+        if kind in b"mM":
+            self.next = LARGEST - (kind == ord("M"))
         elif kind == ord("g"):
             self.greeted = True
-        else:
+        elif kind in b"en":
             self.transaction = kind == ord("n")
+        else:
+            raise SystemExit(f"no kind of event: {chr(kind)}; it is one of > # c s r t p w C o b e g n m M")
         return "done", None
 
     def stands(self):
@@ -157,11 +168,11 @@ class Connection:
 
     def row(self, text):
         try:
-            shown, numbers = self.event(text[0], text[1:])
+            given, numbers = self.event(text[0], text[1:])
         except Refused as refusal:
-            shown, numbers = "refused", (refusal.args[0], 0, 0, 0, 0, 0)
+            given, numbers = "refused", (refusal.args[0], 0, 0, 0, 0, 0)
         listed = "" if numbers is None else f" ({' '.join(map(str, numbers))})"
-        print(f"{self.profile} {papers.quoted(text)}: {shown}{listed}; {self.stands()}")
+        print(f"{self.profile} {papers.quoted(text)}: {given}{listed}; {self.stands()}")
 
 
 CALL = re.compile(r'\b(?:on_(?P<on>smtp|pop3)|dialogue)\(\s*(?:Profile::(?P<by>\w+)\(\),\s*(?P<protected>true|false),\s*)?(?P<events>b"(?:[^"\\]|\\.)*"),?\s*\)')

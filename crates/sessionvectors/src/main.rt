@@ -4,7 +4,10 @@ mod run;
 mod show;
 
 fn main() {
-    dialogues::smtp();
+    dialogues::commands();
+    dialogues::checks();
+    dialogues::exchanges();
+    dialogues::verdicts();
     dialogues::pop3();
     dialogues::unreached();
 }

@@ -22,9 +22,19 @@ pub fn profile(p: Profile) {
     }
 }
 
+// Octets, or how many they are where they are more than a row holds.
+fn octets_of(bytes: &[u8]) {
+    if bytes.len() <= 100 {
+        quoted(bytes);
+    } else {
+        number(bytes.len() as u64);
+        put(b" octets");
+    }
+}
+
 fn decoded(d: Decoded, out: &[u8]) {
     match d {
-        Decoded::Length(n) => quoted(octets::part(out, 0, n)),
+        Decoded::Length(n) => octets_of(octets::part(out, 0, n)),
         Decoded::Malformed => put(b"malformed"),
         Decoded::Short => put(b"short"),
     }
@@ -32,21 +42,21 @@ fn decoded(d: Decoded, out: &[u8]) {
 
 fn encoded(e: Encoded, out: &[u8]) {
     match e {
-        Encoded::End(n) => quoted(octets::part(out, 0, n)),
+        Encoded::End(n) => octets_of(octets::part(out, 0, n)),
         Encoded::Short => put(b"short"),
     }
 }
 
 // The octets of a line that a query or a MAIL hands on.
 fn response(view: View, line: &[u8]) {
-    let mut out = [0u8; 64];
+    let mut out = [0u8; 9213];
     put(b" ");
     let d = view.decode_response(line, &mut out);
     decoded(d, &out);
 }
 
 fn address(view: View, line: &[u8]) {
-    let mut out = [0u8; 64];
+    let mut out = [0u8; 9213];
     put(b" ");
     let d = view.decode_address(line, &mut out);
     decoded(d, &out);
@@ -83,7 +93,7 @@ fn numbers(a: Answer, heard: usize) {
 }
 
 fn heard(a: Answer, p: Profile, bytes: &[u8]) {
-    let mut out = [0u8; 64];
+    let mut out = [0u8; 12288];
     let e = a.say(p, bytes, &mut out);
     encoded(e, &out);
     match e {
@@ -114,14 +124,19 @@ pub fn answer(a: Answer, p: Profile, bytes: &[u8], view: View, line: &[u8]) {
     }
 }
 
+fn name(s: Session) {
+    let mut out = [0u8; 64];
+    let e = s.write_name(&mut out);
+    encoded(e, &out);
+}
+
 fn phase(s: Session) {
     let at = s.phase;
     match at {
         Phase::Idle => put(b"; idle"),
         Phase::SignedIn => {
-            let name = s.name;
             put(b"; ");
-            quoted(octets::part(&name, 0, octets::find(&name, 0, 0)));
+            name(s);
         }
         Phase::Awaiting { sent } => {
             put(b"; awaiting ");
