@@ -168,7 +168,7 @@ initial-text a m r to from n e h v f =
     rw z (text-line a m r e)
 
 -- a word without a space in capitals has none
-spaceless : (l : List ℕ) → holds space (capitals l) ≡ false → holds space l ≡ false
+pub spaceless : (l : List ℕ) → holds space (capitals l) ≡ false → holds space l ≡ false
 unfolding capital
 spaceless [] h = refl
 spaceless (x ∷ l) h =

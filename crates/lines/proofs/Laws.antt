@@ -2,7 +2,7 @@
 -- a reading of a response, and one of an AUTH line, where an exchange runs or none, tells nothing of base64 but its shape
 pub use Rattle.lines.proofs.Alikes.{same-response, spaced-response, same-auth, same-name-text, same-command}
 -- a line that begins with AUTH and a space is an AUTH line, or not understood
-pub use Rattle.lines.proofs.Alikes.{command-line}
+pub use Rattle.lines.proofs.Alikes.{command-line, spaceless}
 -- the text that an AUTH line's reading points to is the response
 pub use Rattle.lines.proofs.Alikes.{initial-text}
 -- what a reading points to is a mechanism's name, and base64 of the length told

@@ -6,4 +6,5 @@ pub mod Cases
 pub mod Answers
 pub mod Words
 pub mod Padded
+pub mod Padding
 pub mod Every

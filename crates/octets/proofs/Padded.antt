@@ -12,7 +12,7 @@ use Rattle.octets.specs.Lists.{holds, before, paddedTo}
 use Rattle.octets.proofs.Answers.{written-is}
 use Rattle.octets.proofs.Words.{before-cut, take-before}
 
-take-replicate : (n k : ℕ) → n ≤ k → replicate {A = ℕ} n 0 ≡ take n (replicate k 0)
+pub take-replicate : (n k : ℕ) → n ≤ k → replicate {A = ℕ} n 0 ≡ take n (replicate k 0)
 take-replicate zero k h = refl
 take-replicate (suc n) zero h = absurd (not-suc-le-zero h)
 take-replicate (suc n) (suc k) h = ap (λ (l : List ℕ). 0 ∷ l) (take-replicate n k (le-of-suc-le-suc h))

@@ -13,10 +13,10 @@ pub mod Response
 pub mod Line
 pub mod Verdict
 pub mod MailEnded
+pub mod WellFormed
 -- and those that its laws cite besides.
 pub mod Standing
 pub mod Named
-pub mod WellFormed
 pub mod Measures
 pub mod Exchange
 pub mod Alike

@@ -1,0 +1,116 @@
+-- Texts padded with NUL, told in one pass without a branch. Assumes nothing.
+use mathlib.Core.Path.{_≡_, refl, sym, ap}
+use mathlib.Core.Bool.{Bool, true, false, not, cond, _&&_, _||_, and-assoc, and-true, and-false}
+use mathlib.Core.List.{List, [], _∷_, _++_}
+use Prim.Native.Nat.{ℕ, zero, suc, _+_, _-_, _<_, _≤_}
+use native.Mathlib.Numerals.{add-one}
+use native.Mathlib.Omega.{arith}
+use borrow.Author.Tests.{eq-eqb, eqb-true, le-leb}
+use lib.Dec.{eqb, leb}
+use lib.ListN.{length, getD, drop, take, replicate, drop-of-length-le}
+use lib.Seq.{drop-cons}
+use Rattle.octets.specs.Lists.{every, oneTo, same, before, paddedTo}
+use Rattle.octets.proofs.Padded.{take-replicate}
+use Rattle.octets.proofs.Words.{length-before}
+
+-- a turn of the test that a list is NUL alone: b, whether the octets before index i are
+module _ (b : Bool) (l : List ℕ) (i : ℕ) where
+  pub blank-step : i < length l
+      → (b && eqb (getD l i 0) 0 && same (drop (i + 1) l) (replicate (length l - (i + 1)) 0)) ≡ (b && same (drop i l) (replicate (length l - i) 0))
+  unfolding same
+  blank-step h =
+      let e : length l - i ≡ suc (length l - (i + 1)) = omega arith in
+      rw (e, drop-cons l i 0 h, add-one) (and-assoc b _ _)
+
+  pub blank-end : length l ≤ i → (b && same (drop i l) (replicate (length l - i) 0)) ≡ b
+  unfolding same
+  blank-end h =
+      let e : length l - i ≡ 0 = omega arith in
+      rw (e, drop-of-length-le l {i = i} h) (and-true b)
+
+module _ (f : ℕ → Bool) where
+  -- an octet that may come after y where what passes the test is padded with NUL; and a list of such
+  abbrev pub follows : ℕ → ℕ → Bool
+  follows y x = eqb x 0 || f x && not (eqb y 0)
+
+  unfoldable pub run : ℕ → List ℕ → Bool
+  run y [] = true
+  run y (x ∷ l) = follows y x && run x l
+
+  -- after NUL comes NUL alone
+  run-blank : (k : ℕ) (l : List ℕ) → length l ≤ k → run 0 l ≡ same l (take (length l) (replicate k 0))
+  unfolding run same
+  run-blank k [] h = refl
+  run-blank zero (x ∷ l) h = absurd (omega arith)
+  run-blank (suc k) (x ∷ l) h = go (eqb x 0) refl (run-blank k l (omega arith))
+    where
+      go : (t : Bool) → eqb x 0 ≡ t → run 0 l ≡ same l (take (length l) (replicate k 0))
+          → ((t || f x && false) && run x l) ≡ (t && same l (take (length l) (replicate k 0)))
+      go true e ih = rw (eqb-true x 0 e) ih
+      go false e ih = rw (and-false (f x))
+
+  -- after what passes, as long as it lasts, comes NUL alone
+  run-padded : (k y : ℕ) (l : List ℕ) → length l ≤ k → eqb y 0 ≡ false
+      → run y l ≡ (every f (before 0 l) && same l (take (length l) (before 0 l ++ replicate k 0)))
+  unfolding run every same before
+  run-padded k y [] h e = refl
+  run-padded k y (x ∷ l) h e = rw e (go (eqb x 0) refl k h (run-padded k x l (omega arith)))
+    where
+      go : (t : Bool) → eqb x 0 ≡ t → (k : ℕ) → suc (length l) ≤ k
+          → (eqb x 0 ≡ false → run x l ≡ (every f (before 0 l) && same l (take (length l) (before 0 l ++ replicate k 0))))
+          → ((t || f x && true) && run x l)
+          ≡ (every f (cond t [] (x ∷ before 0 l)) && same (x ∷ l) (take (suc (length l)) (cond t [] (x ∷ before 0 l) ++ replicate k 0)))
+      go true z zero g ih = absurd (omega arith)
+      go true z (suc k) g ih = rw z (rw (eqb-true x 0 z) (run-blank k l (omega arith)))
+      go false z k g ih =
+          rw (and-true (f x), ih z, eq-eqb x x refl)
+          (sym (and-assoc (f x) (every f (before 0 l)) (same l (take (length l) (before 0 l ++ replicate k 0)))))
+
+  -- a text of n octets is one to n that pass, padded with NUL, exactly where its first passes and the others follow
+  pub padded-run : (n : ℕ) (l : List ℕ) → f 0 ≡ false → length l ≡ n → 1 ≤ n
+      → (f (getD l 0 0) && run (getD l 0 0) (drop 1 l)) ≡ (oneTo n f (before 0 l) && same l (paddedTo n (before 0 l)))
+  unfolding oneTo paddedTo before every same
+  padded-run n [] z e h = absurd (omega arith)
+  padded-run n (x ∷ l) z e h = rw (sym e) (go (eqb x 0) refl)
+    where
+      go : (t : Bool) → eqb x 0 ≡ t
+          → (f x && run x l)
+          ≡ ((leb 1 (length (cond t [] (x ∷ before 0 l))) && leb (length (cond t [] (x ∷ before 0 l))) (suc (length l)) && every f (cond t [] (x ∷ before 0 l)))
+          && same (x ∷ l) (take (suc (length l)) (cond t [] (x ∷ before 0 l) ++ replicate (suc (length l)) 0)))
+      go true g = rw (eqb-true x 0 g, z)
+      go false g =
+          let u : leb 1 (suc (length (before 0 l))) ≡ true = le-leb 1 (suc (length (before 0 l))) (omega arith) in
+          let v : leb (suc (length (before 0 l))) (suc (length l)) ≡ true = le-leb (suc (length (before 0 l))) (suc (length l)) (omega (arith, length-before 0 l)) in
+          rw (u, v, eq-eqb x x refl, run-padded (suc (length l)) x l (omega arith) g)
+          (sym (and-assoc (f x) (every f (before 0 l)) (same l (take (length l) (before 0 l ++ replicate (suc (length l)) 0)))))
+
+  -- a turn of the test: b, whether the octets before index i follow
+  pub run-step : (b : Bool) (l : List ℕ) (i : ℕ) → 1 ≤ i → i < length l
+      → (b && follows (getD l (i - 1) 0) (getD l i 0) && run (getD l (i + 1 - 1) 0) (drop (i + 1) l)) ≡ (b && run (getD l (i - 1) 0) (drop i l))
+  unfolding run
+  run-step b l i g h =
+      let e : i + 1 - 1 ≡ i = omega arith in
+      rw (e, drop-cons l i 0 h, add-one) (and-assoc b _ _)
+
+  pub run-end : (b : Bool) (y : ℕ) (l : List ℕ) (i : ℕ) → length l ≤ i → (b && run y (drop i l)) ≡ b
+  unfolding run
+  run-end b y l i h = rw (drop-of-length-le l {i = i} h) (and-true b)
+
+-- the rest of a text that is padded with NUL
+rest : (k : ℕ) (l : List ℕ) → length l ≤ k
+    → same (drop (length (before 0 l)) l) (replicate (length (drop (length (before 0 l)) l)) 0) ≡ same l (take (length l) (before 0 l ++ replicate k 0))
+unfolding same before
+rest k [] h = refl
+rest k (x ∷ l) h = go (eqb x 0) (rest k l (omega arith))
+  where
+    go : (t : Bool)
+        → same (drop (length (before 0 l)) l) (replicate (length (drop (length (before 0 l)) l)) 0) ≡ same l (take (length l) (before 0 l ++ replicate k 0))
+        → same (drop (length (cond t [] (x ∷ before 0 l))) (x ∷ l)) (replicate (length (drop (length (cond t [] (x ∷ before 0 l))) (x ∷ l))) 0)
+        ≡ same (x ∷ l) (take (suc (length l)) (cond t [] (x ∷ before 0 l) ++ replicate k 0))
+    go true e = ap (λ (m : List ℕ). same (x ∷ l) m) (take-replicate (suc (length l)) k h)
+    go false e = rw (eq-eqb x x refl) e
+
+pub blank-rest : (l : List ℕ)
+    → same (drop (length (before 0 l)) l) (replicate (length (drop (length (before 0 l)) l)) 0) ≡ same l (paddedTo (length l) (before 0 l))
+unfolding paddedTo
+blank-rest l = rest (length l) l (omega arith)
