@@ -1,0 +1,1 @@
+// Layouts of fixed length: only definitions (specs/) and their laws (proofs/).
