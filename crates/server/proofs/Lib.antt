@@ -1,0 +1,7 @@
+-- The laws of a server.
+pub mod Tables
+pub mod Slots
+pub mod Moves
+pub mod Issues
+pub mod Kept
+pub mod Alike

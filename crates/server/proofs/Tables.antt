@@ -1,0 +1,101 @@
+-- The table of mechanisms, record by record. Assumes nothing.
+use mathlib.Core.Path.{_≡_, sym}
+use mathlib.Core.Bool.{Bool, true, false, not, _&&_}
+use mathlib.Core.List.{List, [], _∷_}
+use Prim.Native.Nat.{ℕ, _+_, _<_, _≤_}
+use native.Mathlib.Numerals.{add-one}
+use native.Mathlib.Omega.{arith}
+use borrow.Author.Tests.{le-leb}
+use lib.ListN.{length, getD, drop, replicate, length-take, drop-of-length-le}
+use lib.Seq.{drop-cons, getD-take, take-length, slice}
+use Rattle.octets.specs.Lists.{every, same, before}
+use Rattle.lines.specs.Mechanism.{mechanism, padded}
+use Rattle.session.specs.declared.view.Offer.the-variants.{Absent, Present}
+use Rattle.octets.proofs.Padding.{blank-rest}
+use Rattle.session.proofs.Steps.{name-part}
+use Rattle.server.specs.declared.Mechanism.{Mechanism}
+use Rattle.server.specs.declared.Mechanisms.{Mechanisms}
+use Rattle.server.specs.Mechanisms.{listed, offered}
+use Rattle.server.specs.WellFormed.{apart, sameName, mechanismWithin, mechanismsWithin}
+
+-- what stands where a table has no record
+abbrev pub unset : Mechanism
+unset = record { name = []; «client_first» = false; «needs_protection» = false }
+
+-- how many are listed, of a table of eight
+module _ (t : Mechanisms) (e : length (t .records) ≡ 8) where
+  pub some-listed : t .count < 8 → t .count ≡ length (listed t)
+  some-listed h = simp length-take (omega arith)
+
+  pub all-listed : 8 ≤ t .count → 8 ≡ length (listed t)
+  all-listed h = simp length-take (omega arith)
+
+  pub listed-short : length (listed t) ≤ 8
+  listed-short = simp length-take (omega arith)
+
+  pub table-within : (every mechanismWithin (listed t) && apart sameName (listed t)) ≡ mechanismsWithin (listed t)
+  unfolding mechanismsWithin
+  table-within = rw (le-leb (length (listed t)) 8 listed-short)
+
+module _ (t : Mechanisms) (i : ℕ) where
+  -- the record at an index, and the others from there on
+  next : i < length (listed t) → drop i (listed t) ≡ getD (t .records) i unset ∷ drop (i + 1) (listed t)
+  next h =
+      let k : i < t .count = omega (arith, length-take (t .count) (t .records)) in
+      rw (add-one, drop-cons (listed t) i unset h, getD-take (t .count) (t .records) i unset k)
+
+  none-left : length (listed t) ≤ i → drop i (listed t) ≡ []
+  none-left h = drop-of-length-le (listed t) {i = i} h
+
+  -- a turn of the search for a name
+  module _ (n : List ℕ) where
+    pub offer-here : i < length (listed t) → same (getD (t .records) i unset .name) n ≡ true
+        → Present (getD (t .records) i unset .«client_first») (getD (t .records) i unset .«needs_protection») ≡ offered (drop i (listed t)) n
+    unfolding offered
+    offer-here h e = rw (next h, e)
+
+    pub offer-later : i < length (listed t) → same (getD (t .records) i unset .name) n ≡ false → offered (drop (i + 1) (listed t)) n ≡ offered (drop i (listed t)) n
+    unfolding offered
+    offer-later h e = rw (next h, e)
+
+    pub offer-none : length (listed t) ≤ i → Absent ≡ offered (drop i (listed t)) n
+    unfolding offered
+    offer-none h = rw (none-left h)
+
+  -- a turn of a test of each
+  module _ (f : Mechanism → Bool) where
+    pub each-fails : i < length (listed t) → f (getD (t .records) i unset) ≡ false → false ≡ every f (drop i (listed t))
+    unfolding every
+    each-fails h e = rw (next h, e)
+
+    pub each-passes : i < length (listed t) → f (getD (t .records) i unset) ≡ true → every f (drop (i + 1) (listed t)) ≡ every f (drop i (listed t))
+    unfolding every
+    each-passes h e = rw (next h, e)
+
+    pub each-done : length (listed t) ≤ i → true ≡ every f (drop i (listed t))
+    unfolding every
+    each-done h = rw (none-left h)
+
+  -- a turn of the test that the names differ
+  pub name-again : i < length (listed t) → every (λ m. not (sameName (getD (t .records) i unset) m)) (drop (i + 1) (listed t)) ≡ false
+      → false ≡ apart sameName (drop i (listed t))
+  unfolding apart
+  name-again h e = rw (next h, e)
+
+  pub name-alone : i < length (listed t) → every (λ m. not (sameName (getD (t .records) i unset) m)) (drop (i + 1) (listed t)) ≡ true
+      → apart sameName (drop (i + 1) (listed t)) ≡ apart sameName (drop i (listed t))
+  unfolding apart
+  name-alone h e = rw (next h, e)
+
+  pub names-done : length (listed t) ≤ i → true ≡ apart sameName (drop i (listed t))
+  unfolding apart
+  names-done h = rw (none-left h)
+
+-- a name in twenty octets: what stands before the first NUL, and the rest
+pub name-within : (m : Mechanism) (k : ℕ) → length (m .name) ≡ 20 → k ≡ 0 + length (before 0 (drop 0 (m .name)))
+    → (mechanism (slice 0 k (m .name)) && same (slice k 20 (m .name)) (replicate (length (slice k 20 (m .name))) 0)) ≡ mechanismWithin m
+unfolding mechanismWithin padded
+name-within m k e h =
+    let z : k ≡ length (before 0 (m .name)) = omega arith in
+    let u : slice k 20 (m .name) ≡ drop (length (before 0 (m .name))) (m .name) = rw (z, sym e, take-length (m .name)) in
+    rw (name-part (m .name) k h, u, blank-rest (m .name), e)

@@ -1,0 +1,144 @@
+// The mechanisms of a server.
+ghost use mathlib.Core.Path.{_≡_};
+ghost use mathlib.Core.Bool.{false, not};
+ghost use Prim.Native.Nat.{_≤_};
+ghost use lib.ListN.{length, drop, replicate};
+ghost use Rattle.octets.specs.Lists.{every, same};
+ghost use Rattle.lines.specs.Mechanism.{padded};
+ghost use Rattle.server.specs.Mechanisms.{listed, offered};
+ghost use Rattle.server.specs.WellFormed.{apart, sameName, mechanismWithin, mechanismsWithin};
+use crate::Mechanism;
+use crate::Mechanisms;
+use lines::mechanism::is_mechanism;
+use lines::mechanism::name_of;
+use lines::mechanism::same_name;
+use session::view::Offer;
+
+impl Mechanism {
+    // A mechanism; a name of more than twenty octets is cut.
+    pub fn new(name: &[u8], client_first: bool, needs_protection: bool) -> Mechanism
+        ensures { λ r. ⌜ r ≡ record { name = padded (now (name .entry)); «client_first» = «client_first»; «needs_protection» = «needs_protection» } ⌝ }
+    {
+        let kept = name_of(name);
+        Mechanism {
+            name: kept,
+            client_first,
+            needs_protection,
+        }
+    }
+
+    pub fn is_named(self, name: [u8; 20]) -> bool
+        ensures { λ r. ⌜ r ≡ same (self .name) name ⌝ }
+    {
+        let kept = self.name;
+        same_name(kept, name)
+    }
+
+    // Whether the name is of its form, padded with NUL.
+    pub fn is_well_formed(self) -> bool
+        ensures { λ r. ⌜ r ≡ mechanismWithin self ⌝ }
+    {
+        let name = self.name;
+        let end = octets::find(&name, 0, 0);
+        is_mechanism(octets::part(&name, 0, end)) & octets::is_blank(octets::part(&name, end, 20))
+    }
+}
+
+impl Mechanisms {
+    // A table to which none was added.
+    pub fn none() -> Mechanisms
+        ensures { λ r. ⌜ r ≡ record { records = replicate 8 (record { name = replicate 20 0; «client_first» = false; «needs_protection» = false }); count = 0 } ⌝ }
+    {
+        let unset = Mechanism {
+            name: [0; 20],
+            client_first: false,
+            needs_protection: false,
+        };
+        Mechanisms {
+            records: [unset; 8],
+            count: 0,
+        }
+    }
+
+    // How many mechanisms there are. The table has eight, so a count above lists them all.
+    fn len(self) -> usize
+        ensures { λ r. ⌜ (r ≡ length (listed self)) × (r ≤ 8) ⌝ }
+    {
+        if self.count < 8 { self.count } else { 8 }
+    }
+
+    // What there is of the mechanism with this name.
+    pub fn offer(self, name: [u8; 20]) -> Offer
+        ensures { λ r. ⌜ r ≡ offered (listed self) name ⌝ }
+    {
+        let end = self.len();
+        let mut i: usize = 0;
+        while i < end {
+            let m = self.records[i];
+            if m.is_named(name) {
+                return Offer::Present {
+                    client_first: m.client_first,
+                    needs_protection: m.needs_protection,
+                };
+            }
+            i += 1;
+        }
+        Offer::Absent
+    }
+
+    // Whether each name is well formed.
+    fn are_named(self) -> bool
+        ensures { λ r. ⌜ r ≡ every mechanismWithin (listed self) ⌝ }
+    {
+        let end = self.len();
+        let mut i: usize = 0;
+        while i < end {
+            let m = self.records[i];
+            if !m.is_well_formed() {
+                return false;
+            }
+            i += 1;
+        }
+        true
+    }
+
+    // Whether no mechanism from an index on has the same name as this one.
+    fn are_other(self, m: Mechanism, from: usize) -> bool
+        ensures { λ r. ⌜ r ≡ every (λ n. not (sameName m n)) (drop from (listed self)) ⌝ }
+    {
+        let name = m.name;
+        let end = self.len();
+        let mut i = from;
+        while i < end {
+            let n = self.records[i];
+            let other = n.name;
+            if same_name(name, other) {
+                return false;
+            }
+            i += 1;
+        }
+        true
+    }
+
+    // Whether the names differ.
+    fn differ(self) -> bool
+        ensures { λ r. ⌜ r ≡ apart sameName (listed self) ⌝ }
+    {
+        let end = self.len();
+        let mut i: usize = 0;
+        while i < end {
+            let m = self.records[i];
+            if !self.are_other(m, i + 1) {
+                return false;
+            }
+            i += 1;
+        }
+        true
+    }
+
+    pub fn are_well_formed(self) -> bool
+        ensures { λ r. ⌜ r ≡ mechanismsWithin (listed self) ⌝ }
+    {
+        self.are_named() & self.differ()
+    }
+}
