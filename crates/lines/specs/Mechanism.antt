@@ -11,9 +11,12 @@ abbrev pub mechChar : ℕ → Bool
 mechChar x = isCapital x || isDigit x || eqb x 0x2D || eqb x 0x5F
 
 -- "sasl-mech = 1*20mech-char"
+abbrev pub longestMechanism : ℕ
+longestMechanism = 20
+
 abbrev pub mechanism : List ℕ → Bool
-mechanism m = oneTo 20 mechChar m
+mechanism m = oneTo longestMechanism mechChar m
 
 -- "Each name is kept in twenty octets, padded with NUL" (document 01)
 unfoldable pub padded : List ℕ → List ℕ
-padded m = paddedTo 20 m
+padded m = paddedTo longestMechanism m

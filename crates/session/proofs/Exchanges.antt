@@ -27,10 +27,10 @@ abbrev Keeps : Session → Change → Type 0
 Keeps s c = (c .greeted ≡ s .greeted) × (c .transaction ≡ s .transaction)
 
 keeps : {s : Session} {v : View} {t : ℕ} {c : Change} → (standing (s .phase) ≡ quiet → isAuth v ≡ false → ⊥) → Makes s v t c → Keeps s c
-keeps x (refused r) = (refl, refl)
+keeps x (refused r u) = (refl, refl)
 keeps x (replied q r) = (refl, refl)
 keeps x (failed h r) = (refl, refl)
-keeps x (forwarded q a g y i n w) = absurd (x q a)
+keeps x (forwarded q a g y i n w u) = absurd (x q a)
 keeps x (challenged h) = (refl, refl)
 keeps x (asked i h k f b n z w) = (refl, refl)
 

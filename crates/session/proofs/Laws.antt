@@ -13,6 +13,8 @@ use Rattle.base64.proofs.Laws.{length-encode}
 use Rattle.profile.specs.Texts.{isChallenge}
 use Rattle.profile.specs.declared.Profile.{Profile}
 use Rattle.profile.specs.declared.Profile.the-variants.{Smtp, Pop3}
+use Rattle.profile.specs.declared.numbers.Identity.the-variants as Identities
+use Rattle.profile.specs.declared.numbers.Refusal.{Refusal}
 use Rattle.profile.specs.declared.numbers.Verdict.{Verdict}
 use Rattle.profile.proofs.Laws.{not-challenge, challenge-begins, reply-length}
 use Rattle.session.specs.declared.Session.{Session}
@@ -32,6 +34,7 @@ use Rattle.session.specs.Standing.{quiet, standing, stands, isHeard, isR
 use Rattle.session.specs.Named.{bears, waitsOn, grants}
 use Rattle.session.specs.WellFormed.{sentWithin, nameWithin, wellFormed}
 use Rattle.session.proofs.Makes.{makes}
+pub use Rattle.session.proofs.Makes.{isOfLine}
 use Rattle.session.proofs.Sound.{sound}
 use Rattle.session.proofs.Judged.{verdicts, heard-or-refused, heard-short}
 -- a step depends on the view of a line alone, and lines that are alike are seen alike
@@ -58,6 +61,16 @@ module _ (s : Session) (v : View) (o : Offer) (t : ℕ) where
   pub line-bears : bears (afterLine s v o t .session) ≡ bears s
   unfolding afterLine nameOf
   line-bears = ap (λ (b : Bool). cond b (some (nameOf s)) none) (sound (makes s t v o) .signed)
+
+  -- ""<>" if nobody is signed in": an address is relayed for who is
+  pub line-relays : (n : ℕ) → afterLine s v o t .answer ≡ Answers.Forward Identities.Address n → signedIn (s .phase) ≡ true
+  unfolding afterLine
+  line-relays n e = rw e at (sound (makes s t v o) .relays)
+
+  -- a line is refused with 3 or 7 alone
+  pub line-refusals : (k : Refusal) → afterLine s v o t .answer ≡ Answers.Refused k → isOfLine k ≡ true
+  unfolding afterLine
+  line-refusals k e = rw e at (sound (makes s t v o) .refuses)
 
   pub line-fixed : (afterLine s v o t .session .profile ≡ s .profile) × (afterLine s v o t .session .protected ≡ s .protected)
   unfolding afterLine

@@ -75,6 +75,34 @@ Told v Identities.Null n = n ≡ 0
 Told v Identities.Absent n = n ≡ 0
 Told v Identities.Address n = addressLength v ≡ some n
 
+-- "<>" if nobody is signed in": b, whether somebody is
+abbrev pub Vouched : Bool → Identity → Type 0
+Vouched b Identities.NoMail = Unit {0}
+Vouched b Identities.Null = Unit {0}
+Vouched b Identities.Absent = b ≡ true
+Vouched b Identities.Address = b ≡ true
+
+vouched : (b : Bool) → b ≡ true → (i : Identity) → Vouched b i
+vouched b e Identities.NoMail = tt
+vouched b e Identities.Null = tt
+vouched b e Identities.Absent = e
+vouched b e Identities.Address = e
+
+-- 3 and 7: the refusals that a line may get from its session
+abbrev pub isOfLine : Refusal → Bool
+isOfLine Refusals.ShortBuffer = false
+isOfLine Refusals.NoConnection = false
+isOfLine Refusals.Waiting = true
+isOfLine Refusals.NoTicket = false
+isOfLine Refusals.NotListed = false
+isOfLine Refusals.Full = false
+isOfLine Refusals.Exhausted = true
+isOfLine Refusals.BadName = false
+isOfLine Refusals.NamePresent = false
+isOfLine Refusals.TableFull = false
+isOfLine Refusals.Sealed = false
+isOfLine Refusals.NotTaken = false
+
 abbrev isAuthCommand : Command → Bool
 isAuthCommand Commands.NotUnderstood = false
 isAuthCommand Commands.Malformed = false
@@ -94,10 +122,10 @@ isAuth Views.Unread = false
 
 -- t: the ticket handed in
 pub data Makes (s : Session) (v : View) (t : ℕ) : Change → Type 0 where
-  refused : (r : Refusal) → Makes s v t (refuses s r)
+  refused : (r : Refusal) → isOfLine r ≡ true → Makes s v t (refuses s r)
   replied : standing (s .phase) ≡ quiet → (r : Reply) → Makes s v t (says s r)
   failed : signedIn (s .phase) ≡ false → (r : Reply) → Makes s v t (fails s r)
-  forwarded : standing (s .phase) ≡ quiet → isAuth v ≡ false → (g x : Bool) (i : Identity) (n : ℕ) → Told v i n
+  forwarded : standing (s .phase) ≡ quiet → isAuth v ≡ false → (g x : Bool) (i : Identity) (n : ℕ) → Told v i n → Vouched (signedIn (s .phase)) i
       → Makes s v t (record { greeted = g; transaction = x; phase = s .phase; answer = Answers.Forward i n })
   challenged : signedIn (s .phase) ≡ false → Makes s v t (moves s (Phases.Awaiting 1) Answers.EmptyChallenge)
   asked : eqb t unissued ≡ false → signedIn (s .phase) ≡ false → (k : ℕ) → (sentWithin (s .phase) ≡ true → leb k mostChallenges ≡ true) → (b : Bool) (n : ℕ)
@@ -109,17 +137,18 @@ module _ (s : Session) (t : ℕ) where
   asking v k b n h f z e = go (eqb t unissued) refl
     where
       go : (x : Bool) → eqb t unissued ≡ x → Makes s v t (cond x (refuses s Refusals.Exhausted) (moves s (Phases.Waiting t k) (Answers.Query t b n)))
-      go true i = refused Refusals.Exhausted
+      go true i = refused Refusals.Exhausted refl
       go false i = asked i h k f b n z e
 
   -- where no exchange runs
   module _ (q : standing (s .phase) ≡ quiet) where
     relaying : (v : View) (i : Identity) (n : ℕ) → isAuth v ≡ false → Told v i n → Makes s v t (relays s i n)
-    relaying v i n a h = go (signedIn (s .phase))
+    relaying v i n a h = go (signedIn (s .phase)) refl
       where
-        go : (b : Bool) → Makes s v t (record { greeted = s .greeted; transaction = true; phase = s .phase; answer = cond b (Answers.Forward i n) (Answers.Forward Identities.Null 0) })
-        go true = forwarded q a (s .greeted) true i n h
-        go false = forwarded q a (s .greeted) true Identities.Null 0 refl
+        go : (b : Bool) → signedIn (s .phase) ≡ b
+            → Makes s v t (record { greeted = s .greeted; transaction = true; phase = s .phase; answer = cond b (Answers.Forward i n) (Answers.Forward Identities.Null 0) })
+        go true e = forwarded q a (s .greeted) true i n h (vouched (signedIn (s .phase)) e i)
+        go false e = forwarded q a (s .greeted) true Identities.Null 0 refl tt
 
     beginning : (m : Mail) → Makes s (Views.Command (Commands.Mail m)) t (begins s m)
     beginning Mails.Malformed = replied q Replies.Syntax
@@ -160,14 +189,14 @@ module _ (s : Session) (t : ℕ) where
     unfolding onCommand
     commanding Commands.NotUnderstood o = replied q Replies.NotUnderstood
     commanding Commands.Malformed o = replied q Replies.Syntax
-    commanding Commands.Ehlo o = forwarded q refl true false Identities.NoMail 0 refl
-    commanding Commands.Helo o = forwarded q refl false false Identities.NoMail 0 refl
-    commanding Commands.Rset o = forwarded q refl (s .greeted) false Identities.NoMail 0 refl
-    commanding Commands.Quit o = forwarded q refl (s .greeted) (s .transaction) Identities.NoMail 0 refl
+    commanding Commands.Ehlo o = forwarded q refl true false Identities.NoMail 0 refl tt
+    commanding Commands.Helo o = forwarded q refl false false Identities.NoMail 0 refl tt
+    commanding Commands.Rset o = forwarded q refl (s .greeted) false Identities.NoMail 0 refl tt
+    commanding Commands.Quit o = forwarded q refl (s .greeted) (s .transaction) Identities.NoMail 0 refl tt
     commanding (Commands.Mail m) o = mailing m
     commanding (Commands.Auth a) o = authorising a o
     commanding Commands.Barred o = replied q Replies.WrongMoment
-    commanding Commands.Other o = forwarded q refl (s .greeted) (s .transaction) Identities.NoMail 0 refl
+    commanding Commands.Other o = forwarded q refl (s .greeted) (s .transaction) Identities.NoMail 0 refl tt
 
     resting : (v : View) (o : Offer) → Makes s v t (atRest s v o t)
     resting (Views.Command c) o = commanding c o
@@ -195,4 +224,4 @@ module _ (s : Session) (t : ℕ) where
       go Phases.Idle e = resting (ap standing e) v o
       go Phases.SignedIn e = resting (ap standing e) v o
       go (Phases.Awaiting k) e = answering (ap signedIn e) k (λ g. sym (ap sentWithin e) ∙ g) v
-      go (Phases.Waiting u k) e = refused Refusals.Waiting
+      go (Phases.Waiting u k) e = refused Refusals.Waiting refl

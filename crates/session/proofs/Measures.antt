@@ -116,10 +116,10 @@ module _ (l : List ℕ) where
   told v Identities.Address n h w = h n w
 
   measured : {s : Session} {v : View} {t : ℕ} {c : Change} → Responds l v × Relayed l v → Makes s v t c → Measures v l t (c .answer)
-  measured h (refused r) = tt
+  measured h (refused r u) = tt
   measured h (replied q r) = tt
   measured h (failed u r) = tt
-  measured {v = v} h (forwarded q a g x i n w) = told v i n (h .1) w
+  measured {v = v} h (forwarded q a g x i n w u) = told v i n (h .1) w
   measured h (challenged u) = tt
   measured h (asked i u k f b n z w) = let m = h .0 n w in record { ticket = refl; issued = i; starts = z; valid = m .0; measured = m .1; fits = m .2 }
 
