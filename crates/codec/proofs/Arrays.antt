@@ -11,10 +11,10 @@ use lib.Seq.{getD-drop, drop-drop}
 use Rattle.octets.specs.Lists.{every}
 use Rattle.codec.specs.Codec.{Codec, octet, putOctet, element, putArray, getArray, array}
 use Rattle.codec.specs.Stored.{stored}
-use Rattle.codec.specs.Standing.{standsAt, canonicalAt, everyAt}
+use Rattle.codec.specs.InPlace.{standsAt, canonicalAt, everyAt}
 use Rattle.codec.proofs.Lawful.{Lawful}
 use Rattle.codec.proofs.Stored.{stored-append, stored-whole, stored-after, stored-first, fill-turn, fill-end}
-use Rattle.codec.proofs.Standing.{standsAt-append}
+use Rattle.codec.proofs.InPlace.{standsAt-append}
 
 -- within a list the default does not matter
 pub getD-any : {A : Type 0} (xs : List A) (i : ℕ) (d e : A) → i < length xs → getD xs i d ≡ getD xs i e

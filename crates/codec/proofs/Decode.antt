@@ -10,9 +10,9 @@ use Rattle.octets.specs.Lists.{same}
 use Rattle.octets.proofs.Cases.{both}
 use Rattle.octets.proofs.Words.{same-true, same-refl, same-lengths}
 use Rattle.codec.specs.Codec.{Codec, decode}
-use Rattle.codec.specs.Standing.{canonicalAt}
+use Rattle.codec.specs.InPlace.{canonicalAt}
 use Rattle.codec.proofs.Lawful.{Lawful}
-use Rattle.codec.proofs.Standing.{same-whole}
+use Rattle.codec.proofs.InPlace.{same-whole}
 
 -- by a test: what is taken passed it
 taken : {A : Type 0} (b : Bool) (x y : A) → cond b (some x) none ≡ some y → (b ≡ true) × (x ≡ y)

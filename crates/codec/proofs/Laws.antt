@@ -13,10 +13,10 @@ pub use Rattle.codec.proofs.Stored.{copy-turn, copy-end, fill-turn, fil
 pub use Rattle.codec.proofs.Arrays.{getD-any, octets-put, getArray-length, getArray-at, take-array, array-place, every-array, canonical-array, stored-array}
 pub use Rattle.codec.proofs.Arrays.{get-start, get-turn, get-end, put-turn, put-end}
 -- what stands at an index
-pub use Rattle.codec.proofs.Standing.{standsAt-append, standsAt-turn, standsAt-end, standsAt-part, zeros-turn, zeros-end, same-whole}
-pub use Rattle.codec.proofs.Standing.{everyAt-both, everyAt-turn, everyAt-pass, everyAt-fail, everyAt-end, allAt-turn, allAt-end}
-pub use Rattle.codec.proofs.Standing.{everyPlace, everyPlace-both, everyPlace-same, everyPlace-turn, everyPlace-pass, everyPlace-fail, everyPlace-end}
-pub use Rattle.codec.proofs.Standing.{get-same, canonical-same, canonical-pair}
+pub use Rattle.codec.proofs.InPlace.{standsAt-append, standsAt-turn, standsAt-end, standsAt-part, zeros-turn, zeros-end, same-whole}
+pub use Rattle.codec.proofs.InPlace.{everyAt-both, everyAt-turn, everyAt-pass, everyAt-fail, everyAt-end, allAt-turn, allAt-end}
+pub use Rattle.codec.proofs.InPlace.{everyPlace, everyPlace-both, everyPlace-same, everyPlace-turn, everyPlace-pass, everyPlace-fail, everyPlace-end}
+pub use Rattle.codec.proofs.InPlace.{get-same, canonical-same, canonical-pair}
 -- a value or none; lists of at most n values
 pub use Rattle.codec.proofs.Listed.{put-none, canonical-option, upTo-none, upTo-split, stored-upTo, append-upTo, stored-listed, append-listed}
 pub use Rattle.codec.proofs.Listed.{listed-get, listed-length, listed-place, every-listed, canonical-listed, canonical-listed-every}

@@ -2,7 +2,7 @@
 pub mod Lawful
 pub mod Every
 pub mod Stored
-pub mod Standing
+pub mod InPlace
 pub mod Arrays
 pub mod Listed
 pub mod Decode

@@ -14,10 +14,10 @@ use Rattle.octets.specs.Lists.{every}
 use Rattle.octets.proofs.Cases.{below}
 use Rattle.codec.specs.Codec.{Codec, putOctet, isOne, putArray, getArray, putOption, getOption, option, putUpTo, listed}
 use Rattle.codec.specs.Stored.{stored}
-use Rattle.codec.specs.Standing.{standsAt, canonicalAt, everyAt}
+use Rattle.codec.specs.InPlace.{standsAt, canonicalAt, everyAt}
 use Rattle.codec.proofs.Lawful.{Lawful, putOctet-length, putArray-length}
 use Rattle.codec.proofs.Stored.{stored-after, stored-first, skip}
-use Rattle.codec.proofs.Standing.{standsAt-append, everyAt-both, everyPlace, everyPlace-both, everyPlace-same}
+use Rattle.codec.proofs.InPlace.{standsAt-append, everyAt-both, everyPlace, everyPlace-both, everyPlace-same}
 use Rattle.codec.proofs.Arrays.{getArray-length, take-array, every-array, array-place, canonical-array}
 
 stands-octet : (v : ℕ) (ws l : List ℕ) (at : ℕ) → standsAt (putOctet v ++ ws) l at ≡ (eqb v (getD l at 0) && standsAt ws l (at + 1))

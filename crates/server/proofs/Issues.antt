@@ -1,6 +1,6 @@
 -- The ticket that a session waits on after a step, and the next ticket then. Assumes nothing.
 use mathlib.Core.Path.{_≡_, refl, sym, ap, _∙_}
-use mathlib.Core.Bool.{Bool, true, false, cond, not, _&&_, false≢true, true≢false}
+use mathlib.Core.Bool.{Bool, true, false, not, _&&_, false≢true, true≢false}
 use mathlib.Core.List.{List}
 use mathlib.Core.Option.{Option, none, some}
 use Prim.Native.Nat.{ℕ, _+_, _<_, _≤_}
@@ -11,7 +11,7 @@ use Rattle.octets.proofs.Cases.{both, below}
 use Rattle.profile.specs.declared.numbers.Verdict.{Verdict}
 use Rattle.session.specs.Limits.{unissued}
 use Rattle.session.specs.Line.{afterLine}
-use Rattle.session.specs.Measures.{Asks, Measures}
+use Rattle.session.specs.Measures.{Measures}
 use Rattle.session.specs.Named.{waitsOn}
 use Rattle.session.specs.Standing.{Standing, quiet, awaits, waits, standing, stands, isHeard, isRefused}
 use Rattle.session.specs.Verdict.{given, afterVerdict}
@@ -25,7 +25,7 @@ use Rattle.session.specs.declared.view.Offer.{Offer}
 use Rattle.session.specs.declared.view.View.{View}
 use Rattle.session.proofs.Laws.{line-stands, verdict-stands, verdict-heard, verdict-refuses, line-measures}
 use Rattle.server.specs.declared.Header.{Header}
-use Rattle.server.specs.Limits.{numbers}
+use Rattle.server.specs.Limits.{numberBound}
 use Rattle.server.specs.Line.{issues}
 use Rattle.server.specs.WellFormed.{phaseTicket, isBelow, headerWithin}
 use Rattle.server.proofs.Slots.{Rekeyed, dropped, issued}
@@ -120,13 +120,13 @@ next-below : (t u : ℕ) → u ≡ t → ltb u (t + 1) ≡ true
 next-below t u e = lt-ltb u (t + 1) (omega arith)
 
 -- a number that is not the last has a next one
-pub next-number : (t : ℕ) → t < numbers → eqb t unissued ≡ false → t + 1 < numbers
-next-number t l f = below (t + 1) numbers (λ h. h) (λ h. absurd (eqb-false t unissued f (omega arith)))
+pub next-number : (t : ℕ) → t < numberBound → eqb t unissued ≡ false → t + 1 < numberBound
+next-number t l f = below (t + 1) numberBound (λ h. h) (λ h. absurd (eqb-false t unissued f (omega arith)))
 
-next-within : (c t u : ℕ) → u ≡ t → eqb u unissued ≡ false → (ltb c numbers && ltb t numbers) ≡ true → (ltb c numbers && ltb (t + 1) numbers) ≡ true
+next-within : (c t u : ℕ) → u ≡ t → eqb u unissued ≡ false → (ltb c numberBound && ltb t numberBound) ≡ true → (ltb c numberBound && ltb (t + 1) numberBound) ≡ true
 next-within c t u e f w =
-    let p = both (ltb c numbers) (ltb t numbers) w in
-    rw (p .0) (lt-ltb (t + 1) numbers (next-number t (ltb-true t numbers (p .1)) (ap (λ (k : ℕ). eqb k unissued) (sym e) ∙ f)))
+    let p = both (ltb c numberBound) (ltb t numberBound) w in
+    rw (p .0) (lt-ltb (t + 1) numberBound (next-number t (ltb-true t numberBound (p .1)) (ap (λ (k : ℕ). eqb k unissued) (sym e) ∙ f)))
 
 pub header-issued : (h : Header) (a : Answer) → Issues (h .ticket) a → headerWithin h ≡ true → Issued h a
 unfolding headerWithin

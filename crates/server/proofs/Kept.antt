@@ -1,38 +1,32 @@
 -- Every call that is not refused leaves a well-formed server. Assumes nothing.
-use mathlib.Core.Path.{_≡_, refl, sym, ap, _∙_}
-use mathlib.Core.Bool.{Bool, true, false, cond, not, _&&_, true≢false}
+use mathlib.Core.Path.{_≡_, refl, ap, _∙_}
+use mathlib.Core.Bool.{Bool, true, false, not, _&&_, true≢false}
 use mathlib.Core.List.{List, [], _∷_, _++_}
 use mathlib.Core.Option.{Option, none, some}
-use Prim.Native.Nat.{ℕ, suc, _+_, _<_, _≤_}
+use Prim.Native.Nat.{ℕ, _+_, _<_, _≤_}
 use native.Mathlib.Omega.{arith}
 use lib.Dec.{eqb, leb, ltb}
-use lib.ListN.{length, replicate, length-append, length-replicate}
-use borrow.Author.Tests.{ltb-true, lt-ltb, le-leb, eq-eqb, not-true}
-use Rattle.octets.specs.Lists.{every, same, before}
+use lib.ListN.{length, length-append}
+use borrow.Author.Tests.{ltb-true, lt-ltb, le-leb}
+use Rattle.octets.specs.Lists.{every, same}
 use Rattle.octets.proofs.Cases.{both}
 use Rattle.octets.proofs.Every.{unpadded}
 use Rattle.octets.proofs.Words.{same-refl}
 use Rattle.lines.specs.Mechanism.{mechChar, mechanism, padded}
 use Rattle.session.specs.WellFormed as Sessions
-use Rattle.session.specs.Standing.{isRefused}
 use Rattle.session.specs.View.{view}
 use Rattle.session.specs.Octets.{mechanismText}
 use Rattle.session.specs.Verdict.{afterVerdict}
 use Rattle.session.specs.MailEnded.{afterMail}
 use Rattle.session.specs.Limits.{unissued}
-use Rattle.session.specs.declared.Phase.{Phase}
-use Rattle.session.specs.declared.Session.{Session}
 use Rattle.session.specs.declared.Stepped.{Stepped}
-use Rattle.session.specs.declared.answer.Answer.{Answer}
-use Rattle.session.specs.declared.view.Offer.{Offer}
-use Rattle.session.specs.declared.view.Offer.the-variants.{Absent, Present}
 use Rattle.session.proofs.Laws.{line-within, verdict-within, mail-within, opened-within}
 use Rattle.profile.specs.declared.Profile.{Profile}
 use Rattle.server.specs.declared.Connection.{Connection}
 use Rattle.server.specs.declared.Header.{Header}
 use Rattle.server.specs.declared.Mechanism.{Mechanism}
 use Rattle.server.specs.Add.{kept}
-use Rattle.server.specs.Limits.{mostConnections, mostMechanisms, numbers}
+use Rattle.server.specs.Limits.{mostConnections, mostMechanisms, numberBound}
 use Rattle.server.specs.Line.{issues, withSession, lineStep}
 use Rattle.server.specs.Make.{made, fresh}
 use Rattle.server.specs.Mechanisms.{offered, isPresent}
@@ -44,7 +38,7 @@ use Rattle.server.specs.Slots.{isNumbered, isWaiting, isFree, holding, f
 use Rattle.server.specs.WellFormed.{numberOf, ticketOf, phaseTicket, isBelow, apart, differ, slotWithin, mechanismWithin, sameName, mechanismsWithin, slotsWithin, headerWithin, wellFormed}
 use Rattle.server.proofs.Slots as Slots
 use Rattle.server.proofs.Slots.{first, found-first, free-first, length-replaced, every-first, every-replaced, every-imp, every-replicate, Rekeyed, differ-replaced, differ-free, found-number}
-use Rattle.server.proofs.Issues.{queryTicket, Issues, line-ticket, verdict-ticket, line-issues, verdict-issues, Issued, header-issued, next-number}
+use Rattle.server.proofs.Issues.{queryTicket, Issues, line-ticket, verdict-ticket, line-issues, verdict-issues, header-issued, next-number}
 use Rattle.server.proofs.Moves as Moves
 use Rattle.server.proofs.Moves.{Moves}
 
@@ -206,12 +200,12 @@ mechanisms-within ms n f p w e a l =
 
 -- ---- each call
 
-pub fresh-within : (c t : ℕ) → c < numbers → t < numbers → wellFormed (fresh c t) ≡ true
+pub fresh-within : (c t : ℕ) → c < numberBound → t < numberBound → wellFormed (fresh c t) ≡ true
 unfolding fresh headerWithin mechanismsWithin every apart
 fresh-within c t a b =
     whole (fresh c t)
     (record {
-      header = rw (lt-ltb c numbers a, lt-ltb t numbers b);
+      header = rw (lt-ltb c numberBound a, lt-ltb t numberBound b);
       mechanisms = refl;
       size = refl;
       each = every-replicate (slotWithin (made c t)) none mostConnections (unfold slotWithin in refl);
@@ -229,8 +223,8 @@ entered-open h p b = record { number = omega arith; ticket = refl; sealed = refl
 opened-header : (h : Header) → eqb (h .connection) unissued ≡ false → headerWithin h ≡ true → headerWithin (Open.opens h) ≡ true
 unfolding headerWithin
 opened-header h e w =
-    let b = both (ltb (h .connection) numbers) (ltb (h .ticket) numbers) w in
-    rw (lt-ltb (h .connection + 1) numbers (next-number (h .connection) (ltb-true (h .connection) numbers (b .0)) e), b .1)
+    let b = both (ltb (h .connection) numberBound) (ltb (h .ticket) numberBound) w in
+    rw (lt-ltb (h .connection + 1) numberBound (next-number (h .connection) (ltb-true (h .connection) numberBound (b .0)) e), b .1)
 
 pub within : {s : Server} {r : Request} {a : Result} {z : Server} → Moves s r a z → wellFormed s ≡ true → Sized r → wellFormed z ≡ true
 within (Moves.makes c t) w k = fresh-within c t (k .0) (k .1)

@@ -1,8 +1,8 @@
 -- What a call that is not refused does to a server: one case for each call, with what was found on the way. Laws of calls are by these cases.
 -- Assumes nothing.
-use mathlib.Core.Path.{_≡_, refl, sym, ap, _∙_}
+use mathlib.Core.Path.{_≡_, refl}
 use mathlib.Core.Bool.{Bool, true, false, cond, _&&_}
-use mathlib.Core.List.{List, []}
+use mathlib.Core.List.{List}
 use mathlib.Core.Option.{Option, none, some}
 use Prim.Native.Nat.{ℕ, _<_}
 use lib.Dec.{eqb, ltb}
@@ -17,16 +17,10 @@ use Rattle.profile.specs.declared.numbers.ListedVerdict.{ListedVerdict}
 use Rattle.profile.specs.declared.numbers.ListedVerdict.the-variants as ListedVerdicts
 use Rattle.profile.specs.declared.numbers.Refusal.the-variants as Refusals
 use Rattle.profile.specs.declared.numbers.Verdict.{Verdict}
-use Rattle.session.specs.Answer.{heard}
 use Rattle.session.specs.Limits.{unissued}
-use Rattle.session.specs.Line.{afterLine}
-use Rattle.session.specs.MailEnded.{afterMail}
 use Rattle.session.specs.Named.{bears}
-use Rattle.session.specs.Octets.{mechanismText, relayOctets}
 use Rattle.session.specs.Standing.{isRefused}
 use Rattle.session.specs.Verdict.{afterVerdict}
-use Rattle.session.specs.View.{view}
-use Rattle.session.specs.declared.Stepped.{Stepped}
 use Rattle.session.specs.declared.answer.Answer.{Answer}
 use Rattle.session.specs.declared.answer.Answer.the-variants as Answers
 use Rattle.server.specs.declared.Connection.{Connection}
@@ -37,12 +31,12 @@ use Rattle.server.specs.Line.{lineStep, lineGives, lineLeaves, lineFound
 use Rattle.server.specs.MailEnded.{mailLeaves, mailFound, onMailEnded}
 use Rattle.server.specs.Make.{fresh}
 use Rattle.server.specs.Mechanisms.{offered, isPresent}
-use Rattle.server.specs.Open.{entered, withConnection, enters, opensAs, onOpen}
-use Rattle.server.specs.Outcome.{Result, done, opened, answered, borne, Outcome, refuses, gives, settled, isYesOrNo, isYes}
+use Rattle.server.specs.Open.{entered, withConnection, opensAs, onOpen}
+use Rattle.server.specs.Outcome.{Result, done, opened, borne, Outcome, refuses, gives, settled, isYesOrNo, isYes}
 use Rattle.server.specs.Requests as Requests
 use Rattle.server.specs.Requests.{Request, on}
-use Rattle.server.specs.Server.{Server, withSlots}
-use Rattle.server.specs.Slots.{isNumbered, isWaiting, holding, anyFree, found, replaced}
+use Rattle.server.specs.Server.{Server}
+use Rattle.server.specs.Slots.{isNumbered, isWaiting, anyFree, found}
 use Rattle.server.specs.Verdict.{verdictGives, verdictLeaves, verdictFound, onVerdict}
 use Rattle.server.specs.Who.{whoFound, onWho}
 

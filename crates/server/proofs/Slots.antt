@@ -1,11 +1,11 @@
 -- Slots of which one was replaced: what is found by a number then, and that numbers and tickets still differ. Assumes nothing.
 use mathlib.Core.Path.{_≡_, refl, sym, ap, _∙_}
-use mathlib.Core.Bool.{Bool, true, false, cond, not, _&&_, _||_, true≢false, false≢true}
+use mathlib.Core.Bool.{Bool, true, false, cond, not}
 use mathlib.Core.List.{List, [], _∷_}
 use mathlib.Core.Option.{Option, none, some}
-use Prim.Native.Nat.{ℕ, zero, suc, _+_, _<_, _≤_}
+use Prim.Native.Nat.{ℕ, zero, suc}
 use native.Mathlib.Omega.{arith}
-use lib.Dec.{eqb, ltb}
+use lib.Dec.{eqb}
 use lib.ListN.{length, replicate}
 use borrow.Author.Tests.{eqb-true, eqb-false, eq-eqb, ne-eqb, ltb-true, not-true}
 use Rattle.octets.specs.Lists.{every}
@@ -166,6 +166,29 @@ found-number m c (some x ∷ xs) e = go (eqb (x .number) m) refl (found-number m
     go : (b : Bool) → eqb (x .number) m ≡ b → (found (isNumbered m) xs ≡ some c → c .number ≡ m) → c .number ≡ m
     go true h ih = let r : some x ≡ some c = rw h at e in let g : x ≡ c = cc in ap (λ (k : Connection). k .number) (sym g) ∙ eqb-true (x .number) m h
     go false h ih = ih (rw h at e)
+
+-- a connection found by any test is the one with its number
+pub found-own : (q : Connection → Bool) (c : Connection) (xs : List Slot) → found q xs ≡ some c → differ numberOf xs ≡ true
+    → found (isNumbered (c .number)) xs ≡ some c
+unfolding found apart
+found-own q c [] e d = cc
+found-own q c (none ∷ xs) e d = found-own q c xs e (both (every (λ (y : Slot). true) xs) (differ numberOf xs) d .1)
+found-own q c (some x ∷ xs) e d = go (q x) refl (both (every (λ y. not (has (numberOf y) (x .number))) xs) (differ numberOf xs) d) (found-own q c xs)
+  where
+    go : (b : Bool) → q x ≡ b → (every (λ y. not (has (numberOf y) (x .number))) xs ≡ true) × (differ numberOf xs ≡ true)
+        → (found q xs ≡ some c → differ numberOf xs ≡ true → found (isNumbered (c .number)) xs ≡ some c)
+        → found (isNumbered (c .number)) (some x ∷ xs) ≡ some c
+    go true h w ih =
+        let r : some x ≡ some c = rw h at e in
+        let g : x ≡ c = cc in
+        rw (eq-eqb (x .number) (c .number) (ap (λ (k : Connection). k .number) g)) r
+    go false h w ih =
+        let f : found q xs ≡ some c = rw h at e in
+        let m : not (eqb (c .number) (x .number)) ≡ true =
+        every-first (λ y. not (has (numberOf y) (x .number))) (holding q) (some c) xs (found-first q c xs f) (w .0) in
+        let k : eqb (x .number) (c .number) ≡ false =
+        ne-eqb (x .number) (c .number) (λ i. eqb-false (c .number) (x .number) (not-true (eqb (c .number) (x .number)) m) (sym i)) in
+        rw k (ih f (w .1))
 
 -- it takes another session
 pub find-same : (m n : ℕ) (y z : Connection) (xs : List Slot) → found (isNumbered m) xs ≡ some z → y .number ≡ m

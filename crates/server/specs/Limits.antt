@@ -10,5 +10,5 @@ abbrev pub mostMechanisms : ℕ
 mostMechanisms = 8
 
 -- connection numbers and tickets have "64 bits"
-abbrev pub numbers : ℕ
-numbers = 0x10000000000000000
+abbrev pub numberBound : ℕ
+numberBound = 0x10000000000000000

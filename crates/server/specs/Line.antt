@@ -39,13 +39,13 @@ isAddress Identities.Null = false
 isAddress Identities.Absent = false
 isAddress Identities.Address = true
 
-abbrev pub relays : Answer → Bool
-relays (Answers.Refused r) = false
-relays (Answers.Forward i n) = isAddress i
-relays (Answers.Query t b n) = false
-relays (Answers.Reply e) = false
-relays Answers.EmptyChallenge = false
-relays Answers.Challenge = false
+abbrev pub relaysAddress : Answer → Bool
+relaysAddress (Answers.Refused r) = false
+relaysAddress (Answers.Forward i n) = isAddress i
+relaysAddress (Answers.Query t b n) = false
+relaysAddress (Answers.Reply e) = false
+relaysAddress Answers.EmptyChallenge = false
+relaysAddress Answers.Challenge = false
 
 -- "Each issue takes the next number"
 abbrev pub issues : Answer → Header → Header
@@ -68,7 +68,7 @@ lineStep s c l =
 -- "Only the last is put in the answer buffer": the decoded address of a MAIL
 abbrev pub lineGives : Connection → List ℕ → Stepped → Result
 lineGives c l t =
-    answered (t .answer) (heard (c .session .profile) [] (t .answer)) (cond (relays (t .answer)) (relayOctets (view (c .session) l) l) [])
+    answered (t .answer) (heard (c .session .profile) [] (t .answer)) (cond (relaysAddress (t .answer)) (relayOctets (view (c .session) l) l) [])
 
 abbrev pub lineLeaves : Server → Connection → List ℕ → Server
 lineLeaves s c l = withSession s (holding (isNumbered (c .number))) c (lineStep s c l)

@@ -3,7 +3,7 @@ use mathlib.Core.List.{List}
 use Prim.Native.Nat.{ℕ, _<_}
 use Rattle.server.specs.Add.{onAdd}
 use Rattle.server.specs.Close.{onClose}
-use Rattle.server.specs.Limits.{numbers}
+use Rattle.server.specs.Limits.{numberBound}
 use Rattle.server.specs.Line.{onLine}
 use Rattle.server.specs.MailEnded.{onMailEnded}
 use Rattle.server.specs.Make.{fresh}
@@ -31,7 +31,7 @@ pub data Request : Type 0 where
 
 -- "from a first connection number and a first ticket (64 bits)"; no other number is kept
 abbrev pub Sized : Request → Type 0
-Sized (make c t) = (c < numbers) × (t < numbers)
+Sized (make c t) = (c < numberBound) × (t < numberBound)
 Sized (add n f p) = Unit {0}
 Sized (opens p b) = Unit {0}
 Sized (line n l) = Unit {0}

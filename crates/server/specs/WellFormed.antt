@@ -12,10 +12,9 @@ use Rattle.lines.specs.Mechanism.{mechanism, padded}
 use Rattle.session.specs.WellFormed as Session
 use Rattle.session.specs.declared.Phase.{Phase}
 use Rattle.session.specs.declared.Phase.the-variants.{Idle, SignedIn, Awaiting, Waiting}
-use Rattle.server.specs.declared.Connection.{Connection}
 use Rattle.server.specs.declared.Header.{Header}
 use Rattle.server.specs.declared.Mechanism.{Mechanism}
-use Rattle.server.specs.Limits.{mostConnections, mostMechanisms, numbers}
+use Rattle.server.specs.Limits.{mostConnections, mostMechanisms, numberBound}
 use Rattle.server.specs.Server.{Slot, Server}
 
 -- the number of an open connection, and the ticket that it waits on
@@ -74,7 +73,7 @@ unfoldable pub slotsWithin : Header → List Slot → Bool
 slotsWithin h xs = eqb (length xs) mostConnections && (every (slotWithin h) xs && (differ numberOf xs && differ ticketOf xs))
 
 unfoldable pub headerWithin : Header → Bool
-headerWithin h = ltb (h .connection) numbers && ltb (h .ticket) numbers
+headerWithin h = ltb (h .connection) numberBound && ltb (h .ticket) numberBound
 
 unfoldable pub wellFormed : Server → Bool
 wellFormed s = headerWithin (s .header) && (mechanismsWithin (s .mechanisms) && slotsWithin (s .header) (s .slots))

@@ -14,7 +14,7 @@ use borrow.Author.Tests.{eqb-true}
 use Rattle.octets.specs.Lists.{same}
 use Rattle.octets.proofs.Cases.{both}
 use Rattle.codec.specs.Codec.{Codec, pair}
-use Rattle.codec.specs.Standing.{standsAt, canonicalAt, everyAt}
+use Rattle.codec.specs.InPlace.{standsAt, canonicalAt, everyAt}
 use Rattle.codec.proofs.Lawful.{Lawful}
 
 and-cross : (p q r s : Bool) → ((p && q) && (r && s)) ≡ ((p && r) && (q && s))
