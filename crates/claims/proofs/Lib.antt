@@ -1,2 +1,20 @@
 -- The proofs of the claims.
 pub mod Cases
+pub mod Follows
+pub mod Responses
+pub mod Steps
+pub mod Tells
+pub mod Secrecy
+pub mod Taken
+pub mod Others
+pub mod Refusals
+pub mod Lengths
+pub mod Turns
+pub mod Counts
+pub mod Served
+pub mod Rises
+pub mod Counted
+pub mod Grants
+pub mod Voids
+pub mod Names
+pub mod Witnesses

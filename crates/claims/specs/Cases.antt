@@ -34,48 +34,48 @@ pub data Input : Type 0 where
   clientLines : Profile → List String → Input
 
 -- what comes out
-pub data Outcome : Type 0 where
-  refused : Outcome
-  taken : Outcome
+pub data Effect : Type 0 where
+  refused : Effect
+  taken : Effect
   -- the octets that a text stands for
-  gives : List ℕ → Outcome
+  gives : List ℕ → Effect
   -- of a line: nothing was sent; a refusal's number; it is passed on; the service is asked, whether only to start, with so many octets and
   -- these; the client hears a text
-  nothing : Outcome
-  refusal : ℕ → Outcome
-  forwards : Outcome
-  asks : Bool → ℕ → List ℕ → Outcome
-  hears : List ℕ → Outcome
+  nothing : Effect
+  refusal : ℕ → Effect
+  forwards : Effect
+  asks : Bool → ℕ → List ℕ → Effect
+  hears : List ℕ → Effect
 
 -- a connection is protected, and the mechanism that its AUTH line names is client-first and needs protection; the ticket is 1
-abbrev pub offered : Offer
-offered = Offers.Present true true
+abbrev pub offer : Offer
+offer = Offers.Present true true
 
-abbrev pub answered : Profile → List ℕ → Answer → Outcome
-answered p o (Answers.Refused r) = refusal (refusalNumber r)
-answered p o (Answers.Forward i n) = forwards
-answered p o (Answers.Query t b n) = asks b n o
-answered p o (Answers.Reply e) = hears (heard p [] (Answers.Reply e))
-answered p o Answers.EmptyChallenge = hears (heard p [] Answers.EmptyChallenge)
-answered p o Answers.Challenge = hears (heard p [] Answers.Challenge)
+abbrev pub answerEffect : Profile → List ℕ → Answer → Effect
+answerEffect p o (Answers.Refused r) = refusal (refusalNumber r)
+answerEffect p o (Answers.Forward i n) = forwards
+answerEffect p o (Answers.Query t b n) = asks b n o
+answerEffect p o (Answers.Reply e) = hears (heard p [] (Answers.Reply e))
+answerEffect p o Answers.EmptyChallenge = hears (heard p [] Answers.EmptyChallenge)
+answerEffect p o Answers.Challenge = hears (heard p [] Answers.Challenge)
 
 -- c: what came of the line before
-abbrev pub sends : Profile → Session → Outcome → List String → Outcome
+abbrev pub sends : Profile → Session → Effect → List String → Effect
 sends p s c [] = c
 sends p s c (l ∷ ls) =
-    sends p (afterLine s (view s (ascii l)) offered 1 .session) (answered p (queryOctets (view s (ascii l)) (ascii l)) (afterLine s (view s (ascii l)) offered 1 .answer)) ls
+    sends p (afterLine s (view s (ascii l)) offer 1 .session) (answerEffect p (queryOctets (view s (ascii l)) (ascii l)) (afterLine s (view s (ascii l)) offer 1 .answer)) ls
 
-abbrev pub outcome : Input → Outcome
-outcome (base64Text t) = cond (Base64.valid (ascii t)) (gives (Base64.octets (ascii t))) refused
-outcome (xtextText t) = cond (Xtext.valid (ascii t)) (gives (Xtext.octets (ascii t))) refused
-outcome (mechanismName n) = cond (mechanism (ascii n)) taken refused
-outcome (clientLines p ls) = sends p (opened p true) nothing ls
+abbrev pub effect : Input → Effect
+effect (base64Text t) = cond (Base64.valid (ascii t)) (gives (Base64.octets (ascii t))) refused
+effect (xtextText t) = cond (Xtext.valid (ascii t)) (gives (Xtext.octets (ascii t))) refused
+effect (mechanismName n) = cond (mechanism (ascii n)) taken refused
+effect (clientLines p ls) = sends p (opened p true) nothing ls
 
 pub record Row : Type 0 where
   pub input : Input
-  pub expected : Outcome
+  pub expected : Effect
 
-abbrev pub row : Input → Outcome → Row
+abbrev pub row : Input → Effect → Row
 row i o = record { input = i; expected = o }
 
 -- an exchange in which an answer is awaited
@@ -113,4 +113,4 @@ cases =
 
 -- the claim: every row's input comes to what is expected
 abbrev pub Cases : Type 0
-Cases = map (λ (r : Row). outcome (r .input)) cases ≡ map (λ (r : Row). r .expected) cases
+Cases = map (λ (r : Row). effect (r .input)) cases ≡ map (λ (r : Row). r .expected) cases

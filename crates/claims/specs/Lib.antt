@@ -1,2 +1,11 @@
--- The statements of the claims.
+-- What holds of the definitions as a whole.
 pub mod Cases
+pub mod Told
+pub mod History
+pub mod Secrecy
+pub mod Names
+pub mod Others
+pub mod Refusals
+pub mod Taken
+pub mod Lengths
+pub mod Witnesses

@@ -1,0 +1,113 @@
+-- The lists that names and tickets are claimed of, as servers go through them: made by the first call, and each later call is refused or moves the
+-- server, whose image is taken. Assumes nothing.
+use mathlib.Core.Path.{_≡_, refl}
+use mathlib.Core.Bool.{Bool, true, false, cond, false≢true}
+use mathlib.Core.List.{List, [], _∷_}
+use mathlib.Core.Option.{some}
+use Prim.Native.Nat.{ℕ, _<_}
+use lib.ListN.{length}
+use borrow.Author.Tests.{eq-eqb}
+use Rattle.octets.specs.Lists.{every}
+use Rattle.octets.proofs.Cases.{both}
+use Rattle.profile.specs.declared.numbers.Refusal.{Refusal}
+use Rattle.profile.specs.declared.numbers.Refusal.the-variants as Refusals
+use Rattle.server.specs.Limits.{numberBound}
+use Rattle.server.specs.Make.{fresh}
+use Rattle.server.specs.Outcome as Outcomes
+use Rattle.server.specs.Outcome.{Result, refused, done, Outcome}
+use Rattle.server.specs.Requests as Requests
+use Rattle.server.specs.Requests.{Request, Sized, on}
+use Rattle.server.specs.Server.{Server}
+use Rattle.server.specs.WellFormed.{wellFormed}
+use Rattle.server.proofs.Kept.{fresh-within, within}
+use Rattle.server.proofs.Moves.{Moves, Unrefused, moves}
+use Rattle.image.specs.Image as Images
+use Rattle.image.specs.Image.{Image}
+use Rattle.image.specs.Sizes.{imageSize}
+use Rattle.image.proofs.Taken.{taken-written, taken-within}
+use Rattle.calls.specs.Call as Calls
+use Rattle.calls.specs.Call.{Call, request, isShort}
+use Rattle.calls.specs.Step.{lent, onLent, outcome, resultIn, imageIn, step, left}
+use Rattle.claims.specs.Told.{Made}
+use Rattle.claims.specs.History.{history, isNoMake, NoMake, OfEveryList}
+use Rattle.claims.specs.Told.{made}
+use Rattle.claims.proofs.Steps.{isMake}
+
+-- a call on a server, no make
+pub data Called (s : Server) (q : Request) : Result → Server → Type 0 where
+  refused-by : {k : Refusal} → Called s q (refused k) s
+  moved : {a : Result} {z : Server} → wellFormed s ≡ true → isMake q ≡ false → Moves s q a z → Called s q a z
+
+-- the calls made, the last one first, and the server that they left
+pub data Served : List Made → Server → Type 0 where
+  begins : {c t : ℕ} → Served (made (Requests.make c t) done ∷ []) (fresh c t)
+  then : {h : List Made} {s z : Server} {q : Request} {a : Result} → Called s q a z → Served h s → Served (made q a ∷ h) z
+
+-- ---- one call on an image
+
+-- a call that is no make
+pub record Later (c : Call) : Type 0 where
+  pub unmade : isMake (request c) ≡ false
+  pub sized : Sized (request c)
+  pub lends : (i : Image) → lent i (request c) ≡ Images.taken i
+
+pub later : (c : Call) → isNoMake c ≡ true → Later c
+later (Calls.make m t) e = absurd (false≢true e)
+later (Calls.add n f p) e = record { unmade = refl; sized = tt; lends = λ i. refl }
+later (Calls.opens p b) e = record { unmade = refl; sized = tt; lends = λ i. refl }
+later (Calls.line n l r a) e = record { unmade = refl; sized = tt; lends = λ i. refl }
+later (Calls.verdict t v d r a) e = record { unmade = refl; sized = tt; lends = λ i. refl }
+later (Calls.mailEnded n) e = record { unmade = refl; sized = tt; lends = λ i. refl }
+later (Calls.who n b) e = record { unmade = refl; sized = tt; lends = λ i. refl }
+later (Calls.close n) e = record { unmade = refl; sized = tt; lends = λ i. refl }
+
+-- what a call comes to: r what it gives, i the image that it leaves
+pub record Next (s : Server) (q : Request) (r : Result) (i : Image) : Type 0 where
+  pub server : Server
+  pub taken : Images.taken i ≡ some server
+  pub called : Called s q r server
+
+pub next : (i : Image) (s : Server) → Images.taken i ≡ some s → (c : Call) → isNoMake c ≡ true → Next s (request c) (step i c .result) (step i c .image)
+unfolding step outcome
+next i s e c m = short (isShort c)
+  where
+    q : Request
+    q = request c
+
+    w : wellFormed s ≡ true
+    w = taken-within i s e
+
+    go : (o : Outcome) → Unrefused (Moves s q) o → Next s q (resultIn o) (imageIn i o)
+    go (Outcomes.refuses k) u = record { server = s; taken = e; called = refused-by }
+    go (Outcomes.gives a z) u = record { server = z; taken = taken-written z (within u w (later c m .sized)); called = moved w (later c m .unmade) u }
+
+    short : (b : Bool)
+        → Next s q (resultIn (cond b (Outcomes.refuses Refusals.ShortBuffer) (onLent (lent i q) q)))
+        (imageIn i (cond b (Outcomes.refuses Refusals.ShortBuffer) (onLent (lent i q) q)))
+    short true = go (Outcomes.refuses Refusals.ShortBuffer) tt
+    short false = rw (later c m .lends i, e) (go (on s q) (moves s q))
+
+-- ---- a list of calls
+
+-- the image that a list left is taken for the server that went through it
+pub record Stands (h : List Made) (i : Image) : Type 0 where
+  pub server : Server
+  pub taken : Images.taken i ≡ some server
+  pub served : Served h server
+
+first : (i : Image) (c t : ℕ) → length i ≡ imageSize → c < numberBound → t < numberBound
+    → Stands (made (Requests.make c t) (step i (Calls.make c t) .result) ∷ []) (step i (Calls.make c t) .image)
+unfolding step outcome on
+first i c t l a b = rw (eq-eqb (length i) imageSize l) (record { server = fresh c t; taken = taken-written (fresh c t) (fresh-within c t a b); served = begins })
+
+goes : {h : List Made} {i : Image} → Stands h i → (c : Call) → isNoMake c ≡ true → Stands (made (request c) (step i c .result) ∷ h) (step i c .image)
+goes {h} {i} s c m = let n = next i (s .server) (s .taken) c m in record { server = n .server; taken = n .taken; served = then (n .called) (s .served) }
+
+listed : {h : List Made} {i : Image} → Stands h i → (cs : List Call) → NoMake cs → Stands (history h i cs) (left i cs)
+unfolding history left every
+listed s [] m = s
+listed s (c ∷ cs) m = let b = both (isNoMake c) (every isNoMake cs) m in listed (goes s c (b .0)) cs (b .1)
+
+pub all-stand : OfEveryList Stands
+unfolding history left
+all-stand i c t cs p q m = listed (first i c t p (q .0) (q .1)) cs m

@@ -1,0 +1,368 @@
+-- The examples, by computation over servers: what a list of calls gives on an image is what it gives on the server that the image is taken for.
+-- Assumes nothing.
+use mathlib.Core.Path.{_≡_, refl, ap, ap₂, _∙_}
+use mathlib.Core.Bool.{Bool, true, false, cond, not, _&&_}
+use mathlib.Core.List.{List, [], _∷_, _++_, map}
+use mathlib.Core.Option.{Option, none, some}
+use Prim.Native.Nat.{ℕ}
+use Prim.Native.String.{String}
+use native.Mathlib.Omega.{arith}
+use lib.Dec.{leb}
+use lib.ListN.{length, take, drop}
+use borrow.Author.Tests.{eq-eqb, le-leb}
+use Rattle.octets.specs.Ascii.{ascii, capital, capitals}
+use Rattle.octets.specs.Lists.{every, oneTo, same, before, after, paddedTo}
+use Rattle.base64.specs.Base64 as Base64
+use Rattle.profile.specs.Texts.{words, reply}
+use Rattle.profile.specs.declared.numbers.Refusal.the-variants as Refusals
+use Rattle.lines.specs.Alike.{Alike}
+use Rattle.lines.specs.Auth.{initial, arguments, auth}
+use Rattle.lines.specs.Command.{forbidden, understood, command}
+use Rattle.lines.specs.Mechanism.{padded}
+use Rattle.lines.specs.Response.{response}
+use Rattle.lines.specs.Verb.{verb, verbOf}
+use Rattle.session.specs.Alike as Lines
+use Rattle.session.specs.Answer.{heard}
+use Rattle.session.specs.Auth.{onAuth}
+use Rattle.session.specs.Command.{onCommand}
+use Rattle.session.specs.Limits.{replyBuffer, answerBuffer, longestName}
+use Rattle.session.specs.Line.{afterLine}
+use Rattle.session.specs.Octets.{queryOctets, relayOctets}
+use Rattle.session.specs.Response.{onResponse}
+use Rattle.session.specs.Session.{nameOf}
+use Rattle.session.specs.Standing.{Standing, awaits}
+use Rattle.session.specs.Verdict as Verdicts
+use Rattle.session.specs.View.{viewIn}
+use Rattle.server.specs.Add.{onAdd}
+use Rattle.server.specs.Close.{onClose}
+use Rattle.server.specs.Line.{onLine, responseOn}
+use Rattle.server.specs.Make.{fresh}
+use Rattle.server.specs.Mechanisms.{offered}
+use Rattle.server.specs.Open.{onOpen}
+use Rattle.server.specs.Outcome.{Result, done, Outcome, refuses, gives}
+use Rattle.server.specs.Requests as Requests
+use Rattle.server.specs.Requests.{Request, Sized, on}
+use Rattle.server.specs.Server.{Server}
+use Rattle.server.specs.Slots.{anyFree, found, replaced}
+use Rattle.server.specs.Verdict.{onVerdict}
+use Rattle.server.specs.Who.{onWho}
+use Rattle.server.proofs.Kept.{within, fresh-within}
+use Rattle.server.proofs.Moves.{Moves, Unrefused, moves}
+use Rattle.image.specs.Image.{Image, taken}
+use Rattle.image.specs.Sizes.{imageSize}
+use Rattle.image.proofs.Taken.{taken-written, taken-within}
+use Rattle.calls.specs.Call.{Call, make, request, isShort}
+use Rattle.calls.specs.Step.{onLent, lent, outcome, resultIn, imageIn, responseLent, isQueried, relayedIn, outOf, step, run, left}
+use Rattle.claims.specs.History.{history, isNoMake, AllSized}
+use Rattle.claims.specs.Secrecy as Secrecy
+use Rattle.claims.specs.Told.{told}
+use Rattle.claims.proofs.Served.{later}
+use Rattle.claims.specs.Witnesses.{Buffers, LongEnough, example, signIns, shown, gave, exampleShows, SignsIn, signInsShow, sesame, tomato, plain, PasswordsAlike}
+use Rattle.claims.proofs.Follows.{look}
+use Rattle.claims.proofs.Others.{stands-taken}
+use Rattle.claims.proofs.Tells.{told-stands}
+
+-- the server after a request, and after a list of them
+abbrev serverIn : Server → Outcome → Server
+serverIn s (refuses k) = s
+serverIn s (gives a z) = z
+
+abbrev after-request : Server → Request → Server
+after-request s r = serverIn s (on s r)
+
+abbrev after-requests : Server → List Request → Server
+after-requests s [] = s
+after-requests s (r ∷ rs) = after-requests (after-request s r) rs
+
+-- what a request shows, and a list of them
+abbrev shows : Server → Request → Outcome → Result × List ℕ
+shows s r o = (resultIn o, cond (isQueried (resultIn o)) (responseLent (some s) r) (relayedIn (resultIn o)))
+
+abbrev all-show : Server → List Request → List (Result × List ℕ)
+all-show s [] = []
+all-show s (r ∷ rs) = shows s r (on s r) ∷ all-show (after-request s r) rs
+
+-- ---- from servers to images
+
+-- a call that is neither a make nor short of a buffer
+abbrev Plain : Call → Type 0
+Plain c = (isNoMake c ≡ true) × (isShort c ≡ false)
+
+abbrev Plains : List Call → Type 0
+Plains [] = Unit {0}
+Plains (c ∷ cs) = Plain c × Plains cs
+
+module _ (i : Image) (s : Server) (t : taken i ≡ some s) (c : Call) (p : Plain c) where
+  lent-plain : lent i (request c) ≡ some s
+  lent-plain = later c (p .0) .lends i ∙ t
+
+  outcome-plain : outcome i c ≡ on s (request c)
+  unfolding outcome
+  outcome-plain =
+      ap (λ (b : Bool). cond b (refuses Refusals.ShortBuffer) (onLent (lent i (request c)) (request c))) (p .1)
+      ∙ ap (λ (o : Option Server). onLent o (request c)) lent-plain
+
+  left-in : (o : Outcome) → Unrefused (Moves s (request c)) o → taken (imageIn i o) ≡ some (serverIn s o)
+  left-in (refuses k) m = t
+  left-in (gives a z) m = taken-written z (within m (taken-within i s t) (later c (p .0) .sized))
+
+  step-shows : shown (step i c) ≡ shows s (request c) (on s (request c))
+  unfolding step
+  step-shows =
+      ap (λ (o : Outcome). shown (outOf i (request c) o)) outcome-plain
+      ∙ ap
+      (λ (x : Option Server). (resultIn (on s (request c)), cond (isQueried (resultIn (on s (request c)))) (responseLent x (request c)) (relayedIn (resultIn (on s (request c))))))
+      lent-plain
+
+  step-taken : taken (step i c .image) ≡ some (after-request s (request c))
+  unfolding step
+  step-taken = ap (λ (o : Outcome). taken (imageIn i o)) outcome-plain ∙ left-in (on s (request c)) (moves s (request c))
+
+run-shows : (i : Image) (s : Server) (cs : List Call) → taken i ≡ some s → Plains cs → map shown (run i cs) ≡ all-show s (map request cs)
+unfolding run
+run-shows i s [] t p = refl
+run-shows i s (c ∷ cs) t p =
+    ap₂ (λ (x : Result × List ℕ) (xs : List (Result × List ℕ)). x ∷ xs) (step-shows i s t c (p .0))
+    (run-shows (step i c .image) (after-request s (request c)) cs (step-taken i s t c (p .0)) (p .1))
+
+run-taken : (i : Image) (s : Server) (cs : List Call) → taken i ≡ some s → Plains cs → taken (left i cs) ≡ some (after-requests s (map request cs))
+unfolding left
+run-taken i s [] t p = t
+run-taken i s (c ∷ cs) t p = run-taken (step i c .image) (after-request s (request c)) cs (step-taken i s t c (p .0)) (p .1)
+
+sizes : (cs : List Call) → Plains cs → AllSized cs
+sizes [] p = tt
+sizes (c ∷ cs) p = (later c (p .0 .0) .sized, sizes cs (p .1))
+
+-- make on an image of the right length
+one-sized : Sized (Requests.make 1 1)
+one-sized = (omega arith, omega arith)
+
+module _ (i : Image) (e : length i ≡ imageSize) where
+  make-outcome : outcome i (make 1 1) ≡ gives done (fresh 1 1)
+  unfolding outcome on
+  make-outcome = ap (λ (b : Bool). onLent (cond b (some (fresh 1 1)) none) (Requests.make 1 1)) (eq-eqb (length i) imageSize e)
+
+  make-shows : shown (step i (make 1 1)) ≡ gave done
+  unfolding step
+  make-shows = ap (λ (o : Outcome). shown (outOf i (Requests.make 1 1) o)) make-outcome
+
+  make-taken : taken (step i (make 1 1) .image) ≡ some (fresh 1 1)
+  unfolding step
+  make-taken = ap (λ (o : Outcome). taken (imageIn i o)) make-outcome ∙ taken-written (fresh 1 1) (fresh-within 1 1 (one-sized .0) (one-sized .1))
+
+  made-shows : (cs : List Call) → Plains cs → map shown (run i (make 1 1 ∷ cs)) ≡ gave done ∷ all-show (fresh 1 1) (map request cs)
+  unfolding run
+  made-shows cs p =
+      ap₂ (λ (x : Result × List ℕ) (xs : List (Result × List ℕ)). x ∷ xs) make-shows (run-shows (step i (make 1 1) .image) (fresh 1 1) cs make-taken p)
+
+  made-told : (cs : List Call) → Plains cs → (n : ℕ) (w : Standing) → look n (after-requests (fresh 1 1) (map request cs) .slots) ≡ w
+      → told i (history [] i (make 1 1 ∷ cs)) n ≡ w
+  unfolding left
+  made-told cs p n w f =
+      told-stands i (make 1 1 ∷ cs) (one-sized, sizes cs p) n
+      ∙ stands-taken (left i (make 1 1 ∷ cs)) (after-requests (fresh 1 1) (map request cs)) n (run-taken (step i (make 1 1) .image) (fresh 1 1) cs make-taken p)
+      ∙ f
+
+module _ (b : Buffers) (l : LongEnough b) where
+  long-two : not (leb replyBuffer (length (b .reply)) && leb answerBuffer (length (b .answer))) ≡ false
+  long-two = rw (le-leb replyBuffer (length (b .reply)) (l .reply), le-leb answerBuffer (length (b .answer)) (l .answer))
+
+  long-name : not (leb longestName (length (b .name))) ≡ false
+  long-name = rw (le-leb longestName (length (b .name)) (l .name))
+
+-- ---- the example
+
+example-requests : List Request
+example-requests =
+    Requests.add (ascii "PLAIN") 1 1
+    ∷ Requests.add (ascii "CRAM-MD5") 0 0
+    ∷ Requests.opens 0 1
+    ∷ Requests.line 1 (ascii "EHLO a.example")
+    ∷ Requests.line 1 (ascii "AUTH PLAIN Zm9v")
+    ∷ Requests.verdict 1 1 (ascii "anna")
+    ∷ Requests.who 1
+    ∷ Requests.line 1 (ascii "AUTH PLAIN Zm9v")
+    ∷ Requests.close 1
+    ∷ Requests.verdict 1 1 (ascii "anna")
+    ∷ []
+
+example-computed : gave done ∷ all-show (fresh 1 1) example-requests ≡ exampleShows
+unfolding example-requests fresh on onAdd onOpen onLine onVerdict onWho onClose anyFree found replaced offered responseOn padded every oneTo same before after paddedTo capital words reply verb verbOf initial arguments auth forbidden understood command response viewIn heard nameOf queryOctets relayOctets onAuth onCommand onResponse afterLine Verdicts.onVerdict Verdicts.afterVerdict Base64.alphabet Base64.letter Base64.value Base64.groupOf Base64.valid Base64.octets Base64.encode
+example-computed = refl
+
+pub signs-in : SignsIn
+unfolding example-requests
+signs-in i b e l =
+    let two = long-two b l in
+    made-shows i e (drop 1 (example b))
+    ((refl, refl), ((refl, refl), ((refl, refl), ((refl, two), ((refl, two), ((refl, two), ((refl, long-name b l), ((refl, two), ((refl, refl), ((refl, two), tt))))))))))
+    ∙ example-computed
+
+-- ---- the passwords
+
+-- the requests of the sign-ins but for the make
+sign-in-requests : List ℕ → List Request
+sign-in-requests p =
+    Requests.add (ascii "PLAIN") 1 0
+    ∷ Requests.add (ascii "CRAM-MD5") 0 0
+    ∷ Requests.opens 0 0
+    ∷ Requests.line 1 (ascii "EHLO a.example")
+    ∷ Requests.line 1 (ascii "AUTH PLAIN")
+    ∷ Requests.line 1 p
+    ∷ Requests.verdict 1 1 (ascii "anna")
+    ∷ Requests.opens 1 1
+    ∷ Requests.line 2 (ascii "AUTH PLAIN " ++ p)
+    ∷ Requests.verdict 2 1 (ascii "anna")
+    ∷ Requests.opens 1 0
+    ∷ Requests.line 3 (ascii "AUTH CRAM-MD5")
+    ∷ Requests.verdict 3 0 (ascii "x")
+    ∷ Requests.line 3 p
+    ∷ Requests.verdict 4 1 (ascii "anna")
+    ∷ Requests.who 1
+    ∷ Requests.who 2
+    ∷ Requests.who 3
+    ∷ []
+
+sesame-computed : gave done ∷ all-show (fresh 1 1) (sign-in-requests (ascii "AGFubmEAc2VzYW1l")) ≡ signInsShow (plain "sesame")
+unfolding sign-in-requests fresh on onAdd onOpen onLine onVerdict onWho onClose anyFree found replaced offered responseOn padded every oneTo same before after paddedTo capital words reply verb verbOf initial arguments auth forbidden understood command response viewIn heard nameOf queryOctets relayOctets onAuth onCommand onResponse afterLine Verdicts.onVerdict Verdicts.afterVerdict Base64.alphabet Base64.letter Base64.value Base64.groupOf Base64.valid Base64.octets Base64.encode
+sesame-computed = refl
+
+tomato-computed : gave done ∷ all-show (fresh 1 1) (sign-in-requests (ascii "AGFubmEAdG9tYXRv")) ≡ signInsShow (plain "tomato")
+unfolding sign-in-requests fresh on onAdd onOpen onLine onVerdict onWho onClose anyFree found replaced offered responseOn padded every oneTo same before after paddedTo capital words reply verb verbOf initial arguments auth forbidden understood command response viewIn heard nameOf queryOctets relayOctets onAuth onCommand onResponse afterLine Verdicts.onVerdict Verdicts.afterVerdict Base64.alphabet Base64.letter Base64.value Base64.groupOf Base64.valid Base64.octets Base64.encode
+tomato-computed = refl
+
+-- an answer is awaited after the empty challenge, and after that of the service
+awaits-first : look 1 (after-requests (fresh 1 1) (take 5 (sign-in-requests (ascii "AGFubmEAc2VzYW1l"))) .slots) ≡ awaits
+unfolding sign-in-requests fresh on onAdd onOpen onLine onVerdict onWho onClose anyFree found replaced offered responseOn padded every oneTo same before after paddedTo capital words reply verb verbOf initial arguments auth forbidden understood command response viewIn heard nameOf queryOctets relayOctets onAuth onCommand onResponse afterLine Verdicts.onVerdict Verdicts.afterVerdict Base64.alphabet Base64.letter Base64.value Base64.groupOf Base64.valid Base64.octets Base64.encode
+awaits-first = refl
+
+awaits-third : look 3 (after-requests (fresh 1 1) (take 13 (sign-in-requests (ascii "AGFubmEAc2VzYW1l"))) .slots) ≡ awaits
+unfolding sign-in-requests fresh on onAdd onOpen onLine onVerdict onWho onClose anyFree found replaced offered responseOn padded every oneTo same before after paddedTo capital words reply verb verbOf initial arguments auth forbidden understood command response viewIn heard nameOf queryOctets relayOctets onAuth onCommand onResponse afterLine Verdicts.onVerdict Verdicts.afterVerdict Base64.alphabet Base64.letter Base64.value Base64.groupOf Base64.valid Base64.octets Base64.encode
+awaits-third = refl
+
+sesame-tomato : Alike (ascii "AGFubmEAc2VzYW1l") (ascii "AGFubmEAdG9tYXRv")
+unfolding Base64.alphabet Base64.value Base64.groupOf Base64.valid Base64.closing
+sesame-tomato = record { left = refl; right = refl; lengths = refl; closings = refl }
+
+auth-capitals : capitals (ascii "AUTH") ≡ ascii "AUTH"
+unfolding capital
+auth-capitals = refl
+
+module _ (b : Buffers) (l : LongEnough b) where
+  first-plains : Plains (drop 1 (take 6 (signIns b sesame)))
+  first-plains = let two = long-two b l in ((refl, refl), ((refl, refl), ((refl, refl), ((refl, two), ((refl, two), tt)))))
+
+  third-plains : Plains (drop 1 (take 14 (signIns b sesame)))
+  third-plains =
+      let two = long-two b l in (
+        (refl, refl),
+        (
+          (refl, refl),
+          (
+            (refl, refl),
+            (
+              (refl, two),
+              (
+                (refl, two),
+                (
+                  (refl, two),
+                  (
+                    (refl, two),
+                    (
+                      (refl, refl),
+                      (
+                        (refl, two),
+                        (
+                          (refl, two),
+                          (
+                            (refl, refl),
+                            (
+                              (refl, two),
+                              ((refl, two), tt),
+                            ),
+                          ),
+                        ),
+                      ),
+                    ),
+                  ),
+                ),
+              ),
+            ),
+          ),
+        ),
+      )
+
+  all-plains : (p : String) → Plains (drop 1 (signIns b p))
+  all-plains p =
+      let two = long-two b l in
+      let name = long-name b l in (
+        (refl, refl),
+        (
+          (refl, refl),
+          (
+            (refl, refl),
+            (
+              (refl, two),
+              (
+                (refl, two),
+                (
+                  (refl, two),
+                  (
+                    (refl, two),
+                    (
+                      (refl, refl),
+                      (
+                        (refl, two),
+                        (
+                          (refl, two),
+                          (
+                            (refl, refl),
+                            (
+                              (refl, two),
+                              ((refl, two), ((refl, two), ((refl, two), ((refl, name), ((refl, name), ((refl, name), tt)))))),
+                            ),
+                          ),
+                        ),
+                      ),
+                    ),
+                  ),
+                ),
+              ),
+            ),
+          ),
+        ),
+      )
+
+passwords : (i : Image) (b : Buffers) → length i ≡ imageSize → LongEnough b → Secrecy.ListsAlike i [] i (signIns b sesame) (signIns b tomato)
+unfolding history sign-in-requests
+passwords i b e l =
+    Secrecy.more (Secrecy.make {c = 1} {t = 1} one-sized)
+    (Secrecy.more Secrecy.add
+    (Secrecy.more Secrecy.add
+    (Secrecy.more Secrecy.opens
+    (Secrecy.more (Secrecy.line (Lines.equal _) refl refl)
+    (Secrecy.more (Secrecy.line (Lines.equal _) refl refl)
+    (Secrecy.more (Secrecy.line (Lines.response (made-told i e (drop 1 (take 6 (signIns b sesame))) (first-plains b l) 1 awaits awaits-first) sesame-tomato) refl refl)
+    (Secrecy.more (Secrecy.verdict refl refl)
+    (Secrecy.more Secrecy.opens
+    (Secrecy.more (Secrecy.line (Lines.initial (ascii "AUTH") (ascii "PLAIN") auth-capitals refl sesame-tomato) refl refl)
+    (Secrecy.more (Secrecy.verdict refl refl)
+    (Secrecy.more Secrecy.opens
+    (Secrecy.more (Secrecy.line (Lines.equal _) refl refl)
+    (Secrecy.more (Secrecy.verdict refl refl)
+    (Secrecy.more (Secrecy.line (Lines.response (made-told i e (drop 1 (take 14 (signIns b sesame))) (third-plains b l) 3 awaits awaits-third) sesame-tomato) refl refl)
+    (Secrecy.more (Secrecy.verdict refl refl)
+    (Secrecy.more (Secrecy.who refl)
+    (Secrecy.more (Secrecy.who refl)
+    (Secrecy.more (Secrecy.who refl)
+    Secrecy.none))))))))))))))))))
+
+pub passwords-alike : PasswordsAlike
+unfolding sign-in-requests
+passwords-alike i b e l =
+    record {
+      alike = passwords i b e l;
+      first = made-shows i e (drop 1 (signIns b sesame)) (all-plains b l sesame) ∙ sesame-computed;
+      second = made-shows i e (drop 1 (signIns b tomato)) (all-plains b l tomato) ∙ tomato-computed;
+    }
