@@ -24,7 +24,7 @@ use Rattle.calls.specs.Call as Calls
 use Rattle.calls.specs.Call.{Call, request}
 use Rattle.calls.specs.Step.{outcome, step}
 use Rattle.claims.specs.History.{history, isNoMake, NoMake}
-use Rattle.claims.specs.Names.{tickets, connections, counted, CountedFrom, NumbersNext}
+use Rattle.claims.specs.Numbers.{tickets, connections, counted, CountedFrom, NumbersNext}
 use Rattle.claims.specs.Told.{made, Made}
 use Rattle.claims.proofs.Counts as Counts
 use Rattle.claims.proofs.Counts.{Counts, ticket-counts, number-counts}

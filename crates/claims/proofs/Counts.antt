@@ -26,7 +26,7 @@ use Rattle.server.proofs.Kept.{parts}
 use Rattle.server.proofs.Moves as Moves
 use Rattle.server.proofs.Moves.{Moves}
 use Rattle.claims.proofs.Steps.{isMake}
-use Rattle.claims.specs.Names.{ticketIn, issuesTicket, issuesNumber}
+use Rattle.claims.specs.Numbers.{ticketIn, issuesTicket, issuesNumber}
 
 -- "Each issue takes the next number": the next one and those that were issued, before a call and after it
 pub data Counts (k : ℕ) (l : List ℕ) : ℕ → List ℕ → Type 0 where

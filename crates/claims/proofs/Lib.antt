@@ -17,4 +17,5 @@ pub mod Counted
 pub mod Grants
 pub mod Voids
 pub mod Names
+pub mod Sessions
 pub mod Witnesses

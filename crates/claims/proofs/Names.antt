@@ -35,7 +35,8 @@ use Rattle.calls.specs.Call as Calls
 use Rattle.calls.specs.Call.{Call, isShort}
 use Rattle.calls.specs.Step.{outcome, resultIn, step, left}
 use Rattle.claims.specs.History.{isNoMake, NoMake}
-use Rattle.claims.specs.Names.{isThere, OpenExactly, NamesGranted, GrantedNames, RelaysGranted, NumbersRise, CloseVoids, AnswerVoids}
+use Rattle.claims.specs.Names.{isThere, OpenExactly, NamesGranted, GrantedNames, RelaysGranted, CloseVoids, AnswerVoids}
+use Rattle.claims.specs.Numbers.{NumbersRise}
 use Rattle.claims.specs.Told.{connectionAt}
 use Rattle.claims.proofs.Others.{has-taken}
 use Rattle.claims.proofs.Turns.{heldBy, heldAt, heldName, found-held}

@@ -8,7 +8,8 @@ use Rattle.server.specs.Make.{fresh}
 use Rattle.server.specs.Outcome.{Result, refused, done, opened, answered, borne}
 use Rattle.server.specs.Server.{Server}
 use Rattle.claims.specs.Told.{Made}
-use Rattle.claims.specs.Names.{Issued, issuesTicket, tickets, connections, Above, Rising}
+use Rattle.claims.specs.Names.{Issued}
+use Rattle.claims.specs.Numbers.{issuesTicket, tickets, connections, Above, Rising}
 use Rattle.claims.proofs.Counts as Counts
 use Rattle.claims.proofs.Counts.{Counts, ticket-counts, number-counts}
 use Rattle.claims.proofs.Served.{refused-by, moved, Served, begins, then}

@@ -1,9 +1,9 @@
 -- The lists that names and tickets are claimed of, as servers go through them: made by the first call, and each later call is refused or moves the
 -- server, whose image is taken. Assumes nothing.
-use mathlib.Core.Path.{_≡_, refl}
+use mathlib.Core.Path.{_≡_, refl, ap, _∙_}
 use mathlib.Core.Bool.{Bool, true, false, cond, false≢true}
 use mathlib.Core.List.{List, [], _∷_}
-use mathlib.Core.Option.{some}
+use mathlib.Core.Option.{Option, some}
 use Prim.Native.Nat.{ℕ, _<_}
 use lib.ListN.{length}
 use borrow.Author.Tests.{eq-eqb}
@@ -60,6 +60,20 @@ later (Calls.verdict t v d r a) e = record { unmade = refl; sized = tt; lends = 
 later (Calls.mailEnded n) e = record { unmade = refl; sized = tt; lends = λ i. refl }
 later (Calls.who n b) e = record { unmade = refl; sized = tt; lends = λ i. refl }
 later (Calls.close n) e = record { unmade = refl; sized = tt; lends = λ i. refl }
+
+-- a call that is neither a make nor short of a buffer
+abbrev pub Plain : Call → Type 0
+Plain c = (isNoMake c ≡ true) × (isShort c ≡ false)
+
+module _ (i : Image) (s : Server) (t : Images.taken i ≡ some s) (c : Call) (p : Plain c) where
+  pub lent-plain : lent i (request c) ≡ some s
+  lent-plain = later c (p .0) .lends i ∙ t
+
+  pub outcome-plain : outcome i c ≡ on s (request c)
+  unfolding outcome
+  outcome-plain =
+      ap (λ (b : Bool). cond b (Outcomes.refuses Refusals.ShortBuffer) (onLent (lent i (request c)) (request c))) (p .1)
+      ∙ ap (λ (o : Option Server). onLent o (request c)) lent-plain
 
 -- what a call comes to: r what it gives, i the image that it leaves
 pub record Next (s : Server) (q : Request) (r : Result) (i : Image) : Type 0 where

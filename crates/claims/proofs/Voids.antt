@@ -12,7 +12,8 @@ use Rattle.server.specs.Requests as Requests
 use Rattle.server.specs.Requests.{Request}
 use Rattle.server.specs.Server.{Server}
 use Rattle.claims.specs.Told.{made, Made, isRefusal}
-use Rattle.claims.specs.Names.{Issued, ticketIn, issuesTicket, tickets, Rising}
+use Rattle.claims.specs.Names.{Issued}
+use Rattle.claims.specs.Numbers.{ticketIn, issuesTicket, tickets, Rising}
 use Rattle.claims.proofs.Turns as Turns
 use Rattle.claims.proofs.Turns.{Held, heldAt, heldTicket, Turns, turns, waited, Queries, queried}
 use Rattle.claims.proofs.Counts as Counts

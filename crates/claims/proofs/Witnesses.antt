@@ -1,7 +1,7 @@
 -- The examples, by computation over servers: what a list of calls gives on an image is what it gives on the server that the image is taken for.
 -- Assumes nothing.
 use mathlib.Core.Path.{_≡_, refl, ap, ap₂, _∙_}
-use mathlib.Core.Bool.{Bool, true, false, cond, not, _&&_}
+use mathlib.Core.Bool.{Bool, false, cond, not, _&&_}
 use mathlib.Core.List.{List, [], _∷_, _++_, map}
 use mathlib.Core.Option.{Option, none, some}
 use Prim.Native.Nat.{ℕ}
@@ -14,7 +14,6 @@ use Rattle.octets.specs.Ascii.{ascii, capital, capitals}
 use Rattle.octets.specs.Lists.{every, oneTo, same, before, after, paddedTo}
 use Rattle.base64.specs.Base64 as Base64
 use Rattle.profile.specs.Texts.{words, reply}
-use Rattle.profile.specs.declared.numbers.Refusal.the-variants as Refusals
 use Rattle.lines.specs.Alike.{Alike}
 use Rattle.lines.specs.Auth.{initial, arguments, auth}
 use Rattle.lines.specs.Command.{forbidden, understood, command}
@@ -51,12 +50,12 @@ use Rattle.server.proofs.Moves.{Moves, Unrefused, moves}
 use Rattle.image.specs.Image.{Image, taken}
 use Rattle.image.specs.Sizes.{imageSize}
 use Rattle.image.proofs.Taken.{taken-written, taken-within}
-use Rattle.calls.specs.Call.{Call, make, request, isShort}
-use Rattle.calls.specs.Step.{onLent, lent, outcome, resultIn, imageIn, responseLent, isQueried, relayedIn, outOf, step, run, left}
-use Rattle.claims.specs.History.{history, isNoMake, AllSized}
+use Rattle.calls.specs.Call.{Call, make, request}
+use Rattle.calls.specs.Step.{onLent, outcome, resultIn, imageIn, responseLent, isQueried, relayedIn, outOf, step, run, left}
+use Rattle.claims.specs.History.{history, AllSized}
 use Rattle.claims.specs.Secrecy as Secrecy
 use Rattle.claims.specs.Told.{told}
-use Rattle.claims.proofs.Served.{later}
+use Rattle.claims.proofs.Served.{later, Plain, lent-plain, outcome-plain}
 use Rattle.claims.specs.Witnesses.{Buffers, LongEnough, example, signIns, shown, gave, exampleShows, SignsIn, signInsShow, sesame, tomato, plain, PasswordsAlike}
 use Rattle.claims.proofs.Follows.{look}
 use Rattle.claims.proofs.Others.{stands-taken}
@@ -84,24 +83,11 @@ all-show s (r ∷ rs) = shows s r (on s r) ∷ all-show (after-request s r) rs
 
 -- ---- from servers to images
 
--- a call that is neither a make nor short of a buffer
-abbrev Plain : Call → Type 0
-Plain c = (isNoMake c ≡ true) × (isShort c ≡ false)
-
 abbrev Plains : List Call → Type 0
 Plains [] = Unit {0}
 Plains (c ∷ cs) = Plain c × Plains cs
 
 module _ (i : Image) (s : Server) (t : taken i ≡ some s) (c : Call) (p : Plain c) where
-  lent-plain : lent i (request c) ≡ some s
-  lent-plain = later c (p .0) .lends i ∙ t
-
-  outcome-plain : outcome i c ≡ on s (request c)
-  unfolding outcome
-  outcome-plain =
-      ap (λ (b : Bool). cond b (refuses Refusals.ShortBuffer) (onLent (lent i (request c)) (request c))) (p .1)
-      ∙ ap (λ (o : Option Server). onLent o (request c)) lent-plain
-
   left-in : (o : Outcome) → Unrefused (Moves s (request c)) o → taken (imageIn i o) ≡ some (serverIn s o)
   left-in (refuses k) m = t
   left-in (gives a z) m = taken-written z (within m (taken-within i s t) (later c (p .0) .sized))
@@ -109,14 +95,14 @@ module _ (i : Image) (s : Server) (t : taken i ≡ some s) (c : Call) (p : Plain
   step-shows : shown (step i c) ≡ shows s (request c) (on s (request c))
   unfolding step
   step-shows =
-      ap (λ (o : Outcome). shown (outOf i (request c) o)) outcome-plain
+      ap (λ (o : Outcome). shown (outOf i (request c) o)) (outcome-plain i s t c p)
       ∙ ap
       (λ (x : Option Server). (resultIn (on s (request c)), cond (isQueried (resultIn (on s (request c)))) (responseLent x (request c)) (relayedIn (resultIn (on s (request c))))))
-      lent-plain
+      (lent-plain i s t c p)
 
   step-taken : taken (step i c .image) ≡ some (after-request s (request c))
   unfolding step
-  step-taken = ap (λ (o : Outcome). taken (imageIn i o)) outcome-plain ∙ left-in (on s (request c)) (moves s (request c))
+  step-taken = ap (λ (o : Outcome). taken (imageIn i o)) (outcome-plain i s t c p) ∙ left-in (on s (request c)) (moves s (request c))
 
 run-shows : (i : Image) (s : Server) (cs : List Call) → taken i ≡ some s → Plains cs → map shown (run i cs) ≡ all-show s (map request cs)
 unfolding run

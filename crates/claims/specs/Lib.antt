@@ -4,7 +4,9 @@ pub mod Told
 pub mod History
 pub mod Secrecy
 pub mod Names
+pub mod Numbers
 pub mod Others
+pub mod Sessions
 pub mod Refusals
 pub mod Taken
 pub mod Lengths

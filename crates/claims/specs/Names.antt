@@ -1,30 +1,25 @@
 -- The second demand: "A connection bears a name only through a success verdict on a ticket issued to that connection. Ending it voids its ticket."
 use mathlib.Core.Path.{_≡_}
 use mathlib.Core.Bool.{Bool, true, false, cond}
-use mathlib.Core.List.{List, [], _∷_}
+use mathlib.Core.List.{List, _∷_}
 use mathlib.Core.Logic.{_↔_}
 use mathlib.Core.Option.{Option, none, some}
-use Prim.Native.Nat.{ℕ, zero, suc, _+_, _<_}
+use Prim.Native.Nat.{ℕ}
 use lib.Dec.{eqb}
-use lib.ListN.{length}
 use Rattle.profile.specs.Numbers.{verdictNumber}
 use Rattle.profile.specs.declared.numbers.Identity.the-variants as Identities
 use Rattle.profile.specs.declared.numbers.Refusal.the-variants as Refusals
 use Rattle.profile.specs.declared.numbers.Verdict.the-variants as Verdicts
-use Rattle.session.specs.Limits.{unissued}
-use Rattle.session.specs.declared.answer.Answer.{Answer}
 use Rattle.session.specs.declared.answer.Answer.the-variants as Answers
 use Rattle.server.specs.Outcome.{Result, refused, done, opened, answered, borne}
 use Rattle.server.specs.Requests as Requests
-use Rattle.server.specs.Requests.{Request, Sized}
+use Rattle.server.specs.Requests.{Request}
 use Rattle.server.specs.declared.Connection.{Connection}
-use Rattle.image.specs.Image.{Image}
-use Rattle.image.specs.Sizes.{imageSize}
 use Rattle.calls.specs.Call as Calls
 use Rattle.calls.specs.Call.{Call, isShort}
 use Rattle.calls.specs.Step.{step, left}
 use Rattle.claims.specs.Told.{Made, made, isRefusal, isOpened, connectionAt}
-use Rattle.claims.specs.History.{history, NoMake, OfEveryList}
+use Rattle.claims.specs.History.{NoMake, OfEveryList}
 
 -- what ends all that was known of connection n: a make, its opening, its close, where they are not refused
 abbrev pub endsBy : Request → Result → ℕ → Bool
@@ -80,65 +75,6 @@ RelaysGranted =
     OfEveryList
     (λ h i. (n k : ℕ) (l r a x y : List ℕ) → step i (Calls.line n l r a) .result ≡ answered (Answers.Forward Identities.Address k) x y
     → (m : List ℕ) × Granted n m h)
-
--- the tickets, and the connection numbers, that calls issued, the last one first
-abbrev pub ticketIn : Answer → List ℕ → List ℕ
-ticketIn (Answers.Refused r) ts = ts
-ticketIn (Answers.Forward i n) ts = ts
-ticketIn (Answers.Query t b n) ts = t ∷ ts
-ticketIn (Answers.Reply e) ts = ts
-ticketIn Answers.EmptyChallenge ts = ts
-ticketIn Answers.Challenge ts = ts
-
-abbrev pub issuesTicket : Result → List ℕ → List ℕ
-issuesTicket (refused k) ts = ts
-issuesTicket done ts = ts
-issuesTicket (opened n) ts = ts
-issuesTicket (answered a h x) ts = ticketIn a ts
-issuesTicket (borne n) ts = ts
-
-abbrev pub issuesNumber : Result → List ℕ → List ℕ
-issuesNumber (refused k) ns = ns
-issuesNumber done ns = ns
-issuesNumber (opened n) ns = n ∷ ns
-issuesNumber (answered a h x) ns = ns
-issuesNumber (borne n) ns = ns
-
-unfoldable pub tickets : List Made → List ℕ
-tickets [] = []
-tickets (e ∷ h) = issuesTicket (e .result) (tickets h)
-
-unfoldable pub connections : List Made → List ℕ
-connections [] = []
-connections (e ∷ h) = issuesNumber (e .result) (connections h)
-
--- each is above all that were issued before it, and "2^64-1 is never issued"
-unfoldable pub Above : ℕ → List ℕ → Type 0
-Above n [] = Unit {0}
-Above n (m ∷ l) = (m < n) × Above n l
-
-unfoldable pub Rising : List ℕ → Type 0
-Rising [] = Unit {0}
-Rising (n ∷ l) = (n < unissued) × Above n l × Rising l
-
--- tickets and connection numbers are issued once, and rise
-abbrev pub NumbersRise : Type 0
-NumbersRise = OfEveryList (λ h i. Rising (tickets h) × Rising (connections h))
-
--- k numbers from n on, the last one first
-unfoldable pub counted : ℕ → ℕ → List ℕ
-counted n zero = []
-counted n (suc k) = (n + k) ∷ counted n k
-
--- "Each issue takes the next number": from the first connection number c and the first ticket t on
-pub record CountedFrom (c t : ℕ) (h : List Made) : Type 0 where
-  pub tickets : tickets h ≡ counted t (length (tickets h))
-  pub connections : connections h ≡ counted c (length (connections h))
-
-abbrev pub NumbersNext : Type 0
-NumbersNext =
-    (i : Image) (c t : ℕ) (cs : List Call) → length i ≡ imageSize → Sized (Requests.make c t) → NoMake cs
-    → CountedFrom c t (history [] i (Calls.make c t ∷ cs))
 
 -- "Ending it voids its ticket": after a close of connection n, every later verdict on any ticket that was issued to it is refused
 abbrev pub CloseVoids : Type 0

@@ -1,6 +1,6 @@
 -- Slots of which one was replaced: what is found by a number then, and that numbers and tickets still differ. Assumes nothing.
 use mathlib.Core.Path.{_≡_, refl, sym, ap, _∙_}
-use mathlib.Core.Bool.{Bool, true, false, cond, not}
+use mathlib.Core.Bool.{Bool, true, false, cond, not, true≢false}
 use mathlib.Core.List.{List, [], _∷_}
 use mathlib.Core.Option.{Option, none, some}
 use Prim.Native.Nat.{ℕ, zero, suc}
@@ -290,6 +290,31 @@ found-waits t c (some x ∷ xs) e = go (isWaiting t x) refl (found-waits t c xs)
     go : (b : Bool) → isWaiting t x ≡ b → (found (isWaiting t) xs ≡ some c → isWaiting t c ≡ true) → isWaiting t c ≡ true
     go true h ih = let r : some x ≡ some c = rw h at e in let g : x ≡ c = cc in ap (isWaiting t) (sym g) ∙ h
     go false h ih = ih (rw h at e)
+
+-- a connection found by any test that waits on the ticket is the one that is found by it
+pub found-waiting : (t : ℕ) (q : Connection → Bool) (c : Connection) (xs : List Slot) → found q xs ≡ some c → isWaiting t c ≡ true → differ ticketOf xs ≡ true
+    → found (isWaiting t) xs ≡ some c
+unfolding found apart
+found-waiting t q c [] e w d = cc
+found-waiting t q c (none ∷ xs) e w d = found-waiting t q c xs e w (both (every (λ (y : Slot). true) xs) (differ ticketOf xs) d .1)
+found-waiting t q c (some x ∷ xs) e w d =
+    go (q x) refl (isWaiting t x) refl (both (every (λ y. not (clashes (phaseTicket (x .session .phase)) (ticketOf y))) xs) (differ ticketOf xs) d)
+    (λ f. found-waiting t q c xs f w)
+  where
+    go : (a : Bool) → q x ≡ a → (b : Bool) → isWaiting t x ≡ b
+        → (every (λ y. not (clashes (phaseTicket (x .session .phase)) (ticketOf y))) xs ≡ true) × (differ ticketOf xs ≡ true)
+        → (found q xs ≡ some c → differ ticketOf xs ≡ true → found (isWaiting t) xs ≡ some c) → found (isWaiting t) (some x ∷ xs) ≡ some c
+    go true ea b eb v ih =
+        let r : some x ≡ some c = rw ea at e in
+        let g : x ≡ c = cc in
+        rw (ap (isWaiting t) g ∙ w) r
+    go false ea true eb v ih =
+        let f : found q xs ≡ some c = rw ea at e in
+        let k : phaseTicket (x .session .phase) ≡ some t = has-some (phaseTicket (x .session .phase)) t (sym (waits-has t (x .session .phase)) ∙ eb) in
+        let a : every (λ y. not (has (ticketOf y) t)) xs ≡ true = rw k at (v .0) in
+        let m : not (has (phaseTicket (c .session .phase)) t) ≡ true = every-first (λ y. not (has (ticketOf y) t)) (holding q) (some c) xs (found-first q c xs f) a in
+        absurd (true≢false (sym w ∙ waits-has t (c .session .phase) ∙ not-true (has (phaseTicket (c .session .phase)) t) m))
+    go false ea false eb v ih = rw eb (ih (rw ea at e) (v .1))
 
 -- nobody waits on the ticket
 nobody-waits : (t n : ℕ) (xs : List Slot) → every (λ y. not (has (ticketOf y) t)) xs ≡ true → foundWaits t (found (isNumbered n) xs) ≡ false
