@@ -4,9 +4,7 @@ use mathlib.Core.Bool.{true, false, cond, true≢false}
 use mathlib.Core.List.{List, _∷_}
 use Prim.Native.Nat.{ℕ, _+_, _<_}
 use native.Mathlib.Omega.{arith}
-use lib.Dec.{eqb, ltb}
-use borrow.Author.Tests.{ltb-true}
-use Rattle.octets.proofs.Cases.{both}
+use lib.Dec.{eqb}
 use Rattle.lines.specs.Mechanism.{padded}
 use Rattle.session.specs.Limits.{unissued}
 use Rattle.session.specs.Octets.{mechanismText}
@@ -20,10 +18,11 @@ use Rattle.server.specs.Mechanisms.{offered}
 use Rattle.server.specs.Outcome.{Result}
 use Rattle.server.specs.Requests.{Request}
 use Rattle.server.specs.Server.{Server}
-use Rattle.server.specs.WellFormed.{headerWithin, wellFormed}
+use Rattle.server.specs.WellFormed.{wellFormed}
 use Rattle.server.proofs.Issues.{Issues, line-issues, verdict-issues, next-number}
 use Rattle.server.proofs.Kept.{parts}
 use Rattle.server.proofs.Moves as Moves
+use Rattle.server.proofs.Within.{header-parts}
 use Rattle.server.proofs.Moves.{Moves}
 use Rattle.claims.proofs.Steps.{isMake}
 use Rattle.claims.specs.Numbers.{ticketIn, issuesTicket, issuesNumber}
@@ -37,10 +36,7 @@ below-unissued : (k : ℕ) → k < numberBound → eqb k unissued ≡ false → 
 below-unissued k h e = let n = next-number k h e in omega arith
 
 header-below : (s : Server) → wellFormed s ≡ true → (s .header .connection < numberBound) × (s .header .ticket < numberBound)
-unfolding headerWithin
-header-below s w =
-    let h = both (ltb (s .header .connection) numberBound) (ltb (s .header .ticket) numberBound) (parts s w .header) in
-    (ltb-true (s .header .connection) numberBound (h .0), ltb-true (s .header .ticket) numberBound (h .1))
+header-below s w = header-parts (s .header) (parts s w .header)
 
 answer-counts : (k : ℕ) → k < numberBound → (l : List ℕ) (a : Answer) → Issues k a → Counts k l (cond (isQuery a) (k + 1) k) (ticketIn a l)
 answer-counts k h l (Answers.Refused r) i = same

@@ -25,12 +25,12 @@ use Rattle.session.specs.Standing.{isHeard}
 use Rattle.session.specs.Verdict.{graphic, isName, afterVerdict}
 use Rattle.session.specs.View.{view}
 use Rattle.session.specs.WellFormed as Sessions
-use Rattle.session.specs.WellFormed.{sentWithin, nameWithin}
+use Rattle.session.specs.WellFormed.{nameWithin}
 use Rattle.session.specs.declared.Session.{Session}
 use Rattle.session.specs.declared.answer.Answer.{Answer}
 use Rattle.session.specs.declared.answer.Answer.the-variants as Answers
 use Rattle.session.specs.declared.view.View.{View}
-use Rattle.session.proofs.Laws.{line-measures, line-heard-fits, verdict-heard-fits}
+use Rattle.session.proofs.Laws.{session-parts, line-measures, line-heard-fits, verdict-heard-fits}
 use Rattle.lines.specs.Mechanism.{padded}
 use Rattle.server.specs.Line.{isQuery, relaysAddress, lineStep, responseFound, responseOn}
 use Rattle.server.specs.Mechanisms.{offered}
@@ -104,7 +104,7 @@ line-stated p v l t Answers.Challenge m = record { only = or-true (isEmpty (hear
 -- a name has at most 64 octets
 name-fits : (s : Session) → Sessions.wellFormed s ≡ true → length (nameIn (bears s)) ≤ longestName
 unfolding nameWithin
-name-fits s w = go (signedIn (s .phase)) (both (sentWithin (s .phase)) (nameWithin s) w .1)
+name-fits s w = go (signedIn (s .phase)) (session-parts s w .1)
   where
     go : (b : Bool) → cond b (isName (nameOf s) && same (s .name) (paddedTo longestName (nameOf s))) (same (s .name) (replicate longestName 0)) ≡ true
         → length (nameIn (cond b (some (nameOf s)) none)) ≤ longestName

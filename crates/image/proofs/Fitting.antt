@@ -33,7 +33,8 @@ use Rattle.server.specs.declared.Mechanism.{Mechanism}
 use Rattle.image.specs.Layout.{profile, phaseNumber, phaseSent, phaseWaits, phase, session, connection, slot, mechanism, header}
 use Rattle.image.specs.Image.{imageOf}
 use Rattle.image.proofs.Lawful.{name-length, mechanism-length, every-each}
-use Rattle.image.proofs.Within.{server-parts, mechanisms-parts, mechanism-parts, slots-parts, connection-parts}
+use Rattle.session.proofs.Laws.{session-parts}
+use Rattle.server.proofs.Within.{server-parts, mechanisms-parts, mechanism-parts, slots-parts, connection-parts}
 use Rattle.image.proofs.Stores.{image-parts}
 
 -- ---- lists
@@ -178,8 +179,9 @@ unfolding slot putOption connection
 slot-octets h none e = append-octets (putOctet 0) (replicate (connection .size) 0) (octet-octets 0 (lit< tt)) (zeros-octets (connection .size))
 slot-octets h (some c) e =
     let k = connection-parts h c e in
+    let w = session-parts (c .session) (k .3) in
     append-octets (putOctet 1) (putNumber 8 (c .number) ++ session .put (c .session)) (octet-octets 1 (lit< tt))
-    (append-octets (putNumber 8 (c .number)) (session .put (c .session)) (number-octets 8 (c .number)) (session-octets (c .session) (k .3) (k .4)))
+    (append-octets (putNumber 8 (c .number)) (session .put (c .session)) (number-octets 8 (c .number)) (session-octets (c .session) (w .0) (w .1)))
 
 -- ---- the whole
 

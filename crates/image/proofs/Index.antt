@@ -16,7 +16,7 @@ use Rattle.codec.proofs.Every.{every-all}
 use Rattle.server.specs.Server.{Server}
 use Rattle.server.specs.WellFormed.{numberOf, ticketOf, clashes, apart, differ, sameName, wellFormed}
 use Rattle.server.specs.declared.Mechanism.{Mechanism}
-use Rattle.image.proofs.Within.{server-parts, mechanisms-parts, slots-parts}
+use Rattle.server.proofs.Within.{server-parts, mechanisms-parts, slots-parts}
 
 -- two elements at different indices do not clash
 pub apart-at : {A : Type 0} (clash : A → A → Bool) (xs : List A) (d : A) → apart clash xs ≡ true → (i j : ℕ) → i < j → j < length xs

@@ -33,7 +33,8 @@ use Rattle.server.specs.declared.Connection.{Connection}
 use Rattle.server.specs.declared.Header.{Header}
 use Rattle.server.specs.declared.Mechanism.{Mechanism}
 use Rattle.codec.proofs.Every.{every-all}
-use Rattle.image.proofs.Within.{server-parts, header-parts, mechanisms-parts, mechanism-parts, slots-parts, connection-parts}
+use Rattle.session.proofs.Laws.{session-parts}
+use Rattle.server.proofs.Within.{server-parts, header-parts, mechanisms-parts, mechanism-parts, slots-parts, connection-parts}
 use Rattle.image.specs.Layout.{profileAt, profile, phaseNumber, phaseSent, phaseWaits, phaseAt, phase, session, connection, slot, mechanism, header, server}
 
 -- an octet comes back whatever it is
@@ -123,7 +124,7 @@ connection-good h c e w =
         (
           (
             profile-good (c .session .profile),
-            (tt, (tt, (tt, (phase-good (c .session .phase) (h .ticket) (k .1) (n .1), (name-length (c .session) (k .4), λ i b. tt))))),
+            (tt, (tt, (tt, (phase-good (c .session .phase) (h .ticket) (k .1) (n .1), (name-length (c .session) (session-parts (c .session) (k .3) .1), λ i b. tt))))),
           ),
           refl,
         ),

@@ -4,8 +4,7 @@ pub use Rattle.image.proofs.Lawful.{server-lawful, server-good}
 pub use Rattle.image.proofs.Taken.{image-size, taken-iff, taken-written, taken-within, taken-image, taken-read, taken-size, taken-length}
 pub use Rattle.image.proofs.Split.{taken-own, not-taken, own-size, taken-whole, taken-other, taken-split}
 pub use Rattle.image.proofs.Fitting.{image-octets}
--- what the tests of a well formed server say, part by part and by index
-pub use Rattle.image.proofs.Within.{server-parts, header-parts, mechanisms-parts, mechanism-parts, slots-parts, connection-parts}
+-- what the tests of a well formed server say, by index
 pub use Rattle.image.proofs.Index.{apart-at, numbers-differ, tickets-differ, names-differ}
 -- what is read of an image
 pub use Rattle.image.proofs.Readings.{read-written, written-taken, header-read, mechanisms-read, count-stands, header-taken, mechanisms-taken, count-taken, slot-taken}

@@ -1,5 +1,4 @@
 -- The laws of images.
-pub mod Within
 pub mod Lawful
 pub mod Offsets
 pub mod Taken

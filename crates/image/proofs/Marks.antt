@@ -20,7 +20,7 @@ use Rattle.server.specs.Slots.{isNumbered, isWaiting, holding}
 use Rattle.server.specs.WellFormed.{numberOf, ticketOf, phaseTicket, has, differ}
 use Rattle.server.specs.declared.Connection.{Connection}
 use Rattle.image.specs.Sizes.{connectionSession, sessionPhase, slotSize, serverSlots}
-use Rattle.image.specs.Layout.{phaseAt, phase, connection, slot}
+use Rattle.image.specs.Layout.{phaseAt, connection, slot}
 use Rattle.image.specs.InPlace.{slotOffset}
 use Rattle.image.specs.Private.{slotsAt}
 use Rattle.image.proofs.Offsets.{phase-get, connection-get, slot-get, slot-size}

@@ -22,7 +22,7 @@ use Rattle.server.specs.declared.Connection.{Connection}
 use Rattle.image.specs.declared.Found.{Found}
 use Rattle.image.specs.declared.Found.the-variants.{At, Nothing}
 use Rattle.image.specs.Sizes.{connectionSession, sessionPhase, slotSize, serverSlots, imageSize}
-use Rattle.image.specs.Layout.{phaseAt, phase, session, connection, slot}
+use Rattle.image.specs.Layout.{phaseAt, phase, connection, slot}
 use Rattle.image.specs.InPlace.{readServer, slotOffset, indexFrom, slotFound}
 use Rattle.image.specs.Private.{slotsAt}
 use Rattle.image.proofs.Offsets.{phase-get, session-get, connection-get, slot-get, slot-size, server-get}

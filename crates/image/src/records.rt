@@ -3,7 +3,9 @@ ghost use mathlib.Core.Path.{_≡_};
 ghost use mathlib.Core.Option.{none, some};
 ghost use Prim.Native.Nat.{_+_, _≤_};
 ghost use lib.ListN.{length};
+ghost use Rattle.codec.specs.Codec.{octet, putArray};
 ghost use Rattle.codec.specs.Stored.{stored};
+ghost use Rattle.session.specs.Limits.{longestName};
 ghost use Rattle.image.specs.Sizes.{phaseSize, sessionSize, connectionSize, slotSize, mechanismSize, headerSize, imageSize};
 ghost use Rattle.profile.specs.Numbers.{profileNumber};
 ghost use Rattle.image.specs.Layout.{profileAt, phaseAt, phaseNumber, phaseSent, phaseWaits, slot};
@@ -137,6 +139,13 @@ pub(crate) fn read_session(image: &[u8], at: usize) -> Session
     }
 }
 
+fn write_name(image: &mut [u8], at: usize, name: [u8; NAME])
+    requires { ⌜ at + longestName ≤ length (now image) ⌝ }
+    ensures { λ _. ⌜ now (image .exit) ≡ stored (now (image .entry)) at (putArray octet longestName name) ⌝ }
+{
+    write_octets(image, at, &name);
+}
+
 pub(crate) fn write_session(image: &mut [u8], at: usize, session: Session)
     requires { ⌜ at + sessionSize ≤ length (now image) ⌝ }
     ensures { λ _. ⌜ now (image .exit) ≡ stored (now (image .entry)) at (Layout.session .put session) ⌝ }
@@ -149,7 +158,7 @@ pub(crate) fn write_session(image: &mut [u8], at: usize, session: Session)
     write_flag(image, at + 2, session.greeted);
     write_flag(image, at + 3, session.transaction);
     write_phase(image, at + SESSION_PHASE, phase);
-    write_octets(image, at + SESSION_NAME, &name);
+    write_name(image, at + SESSION_NAME, name);
 }
 
 // ---- a connection and a slot

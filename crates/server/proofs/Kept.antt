@@ -1,13 +1,13 @@
 -- Every call that is not refused leaves a well-formed server. Assumes nothing.
 use mathlib.Core.Path.{_≡_, refl, ap, _∙_}
-use mathlib.Core.Bool.{Bool, true, false, not, _&&_, true≢false}
+use mathlib.Core.Bool.{Bool, true, false, not, true≢false}
 use mathlib.Core.List.{List, [], _∷_, _++_}
 use mathlib.Core.Option.{Option, none, some}
 use Prim.Native.Nat.{ℕ, _+_, _<_, _≤_}
 use native.Mathlib.Omega.{arith}
-use lib.Dec.{eqb, leb, ltb}
+use lib.Dec.{eqb}
 use lib.ListN.{length, length-append}
-use borrow.Author.Tests.{ltb-true, lt-ltb, le-leb}
+use borrow.Author.Tests.{ltb-true, lt-ltb, le-leb, eq-eqb}
 use Rattle.octets.specs.Lists.{every, same}
 use Rattle.octets.proofs.Cases.{both}
 use Rattle.octets.proofs.Every.{unpadded}
@@ -36,6 +36,7 @@ use Rattle.server.specs.Requests.{Request, Sized}
 use Rattle.server.specs.Server.{Slot, Server}
 use Rattle.server.specs.Slots.{isNumbered, isWaiting, isFree, holding, found, replaced}
 use Rattle.server.specs.WellFormed.{numberOf, ticketOf, phaseTicket, isBelow, apart, differ, slotWithin, mechanismWithin, sameName, mechanismsWithin, slotsWithin, headerWithin, wellFormed}
+use Rattle.server.proofs.Within.{server-parts, header-parts, mechanisms-parts, slots-parts, connection-parts}
 use Rattle.server.proofs.Slots as Slots
 use Rattle.server.proofs.Slots.{first, found-first, free-first, length-replaced, every-first, every-replaced, every-imp, every-replicate, Rekeyed, differ-replaced, differ-free, found-number}
 use Rattle.server.proofs.Issues.{queryTicket, Issues, line-ticket, verdict-ticket, line-issues, verdict-issues, header-issued, next-number}
@@ -47,24 +48,20 @@ use Rattle.server.proofs.Moves.{Moves}
 pub record Parts (s : Server) : Type 0 where
   pub header : headerWithin (s .header) ≡ true
   pub mechanisms : mechanismsWithin (s .mechanisms) ≡ true
-  pub size : eqb (length (s .slots)) mostConnections ≡ true
+  pub size : length (s .slots) ≡ mostConnections
   pub each : every (slotWithin (s .header)) (s .slots) ≡ true
   pub numbers : differ numberOf (s .slots) ≡ true
   pub tickets : differ ticketOf (s .slots) ≡ true
 
 pub parts : (s : Server) → wellFormed s ≡ true → Parts s
-unfolding wellFormed slotsWithin
 parts s w =
-    let h = both (headerWithin (s .header)) (mechanismsWithin (s .mechanisms) && slotsWithin (s .header) (s .slots)) w in
-    let m = both (mechanismsWithin (s .mechanisms)) (slotsWithin (s .header) (s .slots)) (h .1) in
-    let z = both (eqb (length (s .slots)) mostConnections) (every (slotWithin (s .header)) (s .slots) && (differ numberOf (s .slots) && differ ticketOf (s .slots))) (m .1) in
-    let e = both (every (slotWithin (s .header)) (s .slots)) (differ numberOf (s .slots) && differ ticketOf (s .slots)) (z .1) in
-    let d = both (differ numberOf (s .slots)) (differ ticketOf (s .slots)) (e .1) in
-    record { header = h .0; mechanisms = m .0; size = z .0; each = e .0; numbers = d .0; tickets = d .1 }
+    let p = server-parts s w in
+    let x = slots-parts (s .header) (s .slots) (p .2) in
+    record { header = p .0; mechanisms = p .1; size = x .0; each = x .1; numbers = x .2; tickets = x .3 }
 
 pub whole : (s : Server) → Parts s → wellFormed s ≡ true
 unfolding wellFormed slotsWithin
-whole s p = rw (p .header, p .mechanisms, p .size, p .each, p .numbers, p .tickets)
+whole s p = rw (p .header, p .mechanisms, eq-eqb (length (s .slots)) mostConnections (p .size), p .each, p .numbers, p .tickets)
 
 -- ---- the fields of a slot that is occupied
 
@@ -75,12 +72,7 @@ pub record Occupied (h : Header) (c : Connection) : Type 0 where
   pub session : Sessions.wellFormed (c .session) ≡ true
 
 pub slot-open : (h : Header) (c : Connection) → slotWithin h (some c) ≡ true → Occupied h c
-unfolding slotWithin
-slot-open h c w =
-    let n = both (ltb (c .number) (h .connection)) (isBelow (phaseTicket (c .session .phase)) (h .ticket) && (h .sealed && Sessions.wellFormed (c .session))) w in
-    let t = both (isBelow (phaseTicket (c .session .phase)) (h .ticket)) (h .sealed && Sessions.wellFormed (c .session)) (n .1) in
-    let z = both (h .sealed) (Sessions.wellFormed (c .session)) (t .1) in
-    record { number = ltb-true (c .number) (h .connection) (n .0); ticket = t .0; sealed = z .0; session = z .1 }
+slot-open h c w = let p = connection-parts h c w in record { number = p .0; ticket = p .1; sealed = p .2; session = p .3 }
 
 pub open-slot : (h : Header) (c : Connection) → Occupied h c → slotWithin h (some c) ≡ true
 unfolding slotWithin
@@ -135,7 +127,7 @@ module _ (s : Server) (w : Parts s) (p : Slot → Bool) (y z : Slot) (f : first 
       (record {
         header = v;
         mechanisms = w .mechanisms;
-        size = ap (λ (k : ℕ). eqb k mostConnections) (length-replaced p y (s .slots)) ∙ w .size;
+        size = length-replaced p y (s .slots) ∙ w .size;
         each = every-replaced (slotWithin g) p y (s .slots) (every-imp (slotWithin (s .header)) (slotWithin g) (slot-wider (s .header) g x) (s .slots) (w .each)) o;
         numbers = differ-replaced numberOf (s .header .connection) p y z (s .slots) f n (numbers-below (s .header) (s .slots) (w .each)) (w .numbers);
         tickets = differ-replaced ticketOf (s .header .ticket) p y z (s .slots) f t (tickets-below (s .header) (s .slots) (w .each)) (w .tickets);
@@ -192,11 +184,10 @@ mechanisms-within : (ms : List Mechanism) (n : List ℕ) (f p : ℕ) → mechani
     → length ms < mostMechanisms → mechanismsWithin (ms ++ (kept n f p ∷ [])) ≡ true
 unfolding mechanismsWithin
 mechanisms-within ms n f p w e a l =
-    let b = both (leb (length ms) mostMechanisms) (every mechanismWithin ms && apart sameName ms) w in
-    let c = both (every mechanismWithin ms) (apart sameName ms) (b .1) in
+    let c = mechanisms-parts ms w in
     let k : length (ms ++ (kept n f p ∷ [])) ≤ mostMechanisms = rw length-append (omega arith) in
-    rw (le-leb (length (ms ++ (kept n f p ∷ []))) mostMechanisms k, every-last mechanismWithin ms (kept n f p) (c .0) (kept-within n f p e))
-    (apart-last sameName ms (kept n f p) (c .1) (absent-each ms (padded n) a))
+    rw (le-leb (length (ms ++ (kept n f p ∷ []))) mostMechanisms k, every-last mechanismWithin ms (kept n f p) (c .1) (kept-within n f p e))
+    (apart-last sameName ms (kept n f p) (c .2) (absent-each ms (padded n) a))
 
 -- ---- each call
 
@@ -223,8 +214,8 @@ entered-open h p b = record { number = omega arith; ticket = refl; sealed = refl
 opened-header : (h : Header) → eqb (h .connection) unissued ≡ false → headerWithin h ≡ true → headerWithin (Open.opens h) ≡ true
 unfolding headerWithin
 opened-header h e w =
-    let b = both (ltb (h .connection) numberBound) (ltb (h .ticket) numberBound) w in
-    rw (lt-ltb (h .connection + 1) numberBound (next-number (h .connection) (ltb-true (h .connection) numberBound (b .0)) e), b .1)
+    let b = header-parts h w in
+    rw (lt-ltb (h .connection + 1) numberBound (next-number (h .connection) (b .0) e), lt-ltb (h .ticket) numberBound (b .1))
 
 pub within : {s : Server} {r : Request} {a : Result} {z : Server} → Moves s r a z → wellFormed s ≡ true → Sized r → wellFormed z ≡ true
 within (Moves.makes c t) w k = fresh-within c t (k .0) (k .1)

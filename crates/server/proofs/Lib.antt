@@ -1,5 +1,6 @@
 -- The laws of a server.
 pub mod Tables
+pub mod Within
 pub mod Slots
 pub mod Moves
 pub mod Issues

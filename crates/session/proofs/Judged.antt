@@ -31,6 +31,7 @@ use Rattle.session.specs.Limits.{mostChallenges, longestChallenge, longe
 use Rattle.session.specs.declared.change.Change.{Change}
 use Rattle.session.specs.Named.{bears, waitsOn, isSuccess, grants}
 use Rattle.session.specs.WellFormed.{sentWithin, nameWithin, wellFormed}
+use Rattle.session.proofs.Within.{session-parts}
 
 -- a name that is kept in 64 octets is read back
 pub name-kept : (s : Session) (n : List ℕ) → isName n ≡ true → nameOf (named s n) ≡ n
@@ -73,13 +74,13 @@ module _ (s : Session) (d : List ℕ) where
 
     -- what the limits say of a session that waits: of its count, and of its name
     sent : wellFormed s ≡ true → leb k 16 ≡ true
-    sent w = sym (ap sentWithin e) ∙ both (sentWithin (s .phase)) (nameWithin s) w .0
+    sent w = sym (ap sentWithin e) ∙ session-parts s w .0
 
     blank : wellFormed s ≡ true → same (s .name) (replicate 64 0) ≡ true
     unfolding nameWithin
     blank w =
         sym (ap (λ (p : Phase). cond (signedIn p) (isName (nameOf s) && same (s .name) (paddedTo 64 (nameOf s))) (same (s .name) (replicate 64 0))) e)
-        ∙ both (sentWithin (s .phase)) (nameWithin s) w .1
+        ∙ session-parts s w .1
 
     failing : (r : Reply) → Judged s false d (stepped s (fails s r))
     unfolding nameWithin

@@ -7,7 +7,6 @@ use Prim.Native.Nat.{ℕ, _≤_}
 use native.Mathlib.Omega.{arith}
 use lib.ListN.{length, replicate, length-append}
 use Rattle.octets.specs.Lists.{same}
-use Rattle.octets.proofs.Cases.{both}
 use Rattle.octets.proofs.Words.{same-refl}
 use Rattle.base64.proofs.Laws.{length-encode}
 use Rattle.profile.specs.Texts.{isChallenge}
@@ -32,8 +31,9 @@ use Rattle.session.specs.Verdict.{given, afterVerdict}
 use Rattle.session.specs.MailEnded.{afterMail}
 use Rattle.session.specs.Standing.{quiet, standing, stands, isHeard, isRefused}
 use Rattle.session.specs.Named.{bears, waitsOn, grants}
-use Rattle.session.specs.WellFormed.{sentWithin, nameWithin, wellFormed}
+use Rattle.session.specs.WellFormed.{nameWithin, wellFormed}
 use Rattle.session.proofs.Makes.{makes}
+pub use Rattle.session.proofs.Within.{session-parts}
 pub use Rattle.session.proofs.Makes.{isOfLine}
 use Rattle.session.proofs.Sound.{sound}
 use Rattle.session.proofs.Judged.{verdicts, heard-or-refused, heard-short}
@@ -80,7 +80,7 @@ module _ (s : Session) (v : View) (o : Offer) (t : ℕ) where
   unfolding afterLine nameWithin nameOf
   line-within w =
       let l = sound (makes s t v o) in
-      let h = both (sentWithin (s .phase)) (nameWithin s) w in
+      let h = session-parts s w in
       rw (l .sent (h .0), l .signed) (h .1)
 
 module _ (s : Session) (t : ℕ) (v : Verdict) (d : List ℕ) where

@@ -2,6 +2,7 @@
 pub mod Steps
 pub mod Makes
 pub mod Sound
+pub mod Within
 pub mod Judged
 pub mod Challenges
 pub mod Views

@@ -12,13 +12,13 @@ use Rattle.octets.proofs.Cases.{both}
 use Rattle.octets.proofs.Words.{same-true}
 use Rattle.lines.specs.Mechanism.{padded}
 use Rattle.lines.specs.Mechanism as Lines
-use Rattle.session.specs.WellFormed.{sentWithin, nameWithin}
+use Rattle.session.specs.WellFormed as Sessions
 use Rattle.server.specs.Limits.{mostConnections, mostMechanisms, numberBound}
 use Rattle.server.specs.Server.{Slot, Server}
 use Rattle.server.specs.WellFormed.{isBelow, phaseTicket, differ, numberOf, ticketOf, apart, sameName, slotWithin, mechanismWithin, mechanismsWithin, slotsWithin, headerWithin, wellFormed}
 use Rattle.server.specs.declared.Connection.{Connection}
 use Rattle.server.specs.declared.Header.{Header}
 use Rattle.server.specs.declared.Mechanism.{Mechanism}
 
 pub server-parts : (s : Server) → wellFormed s ≡ true
     → (headerWithin (s .header) ≡ true) × (mechanismsWithin (s .mechanisms) ≡ true) × (slotsWithin (s .header) (s .slots) ≡ true)
@@ -62,14 +62,12 @@ pub connection-parts : (h : Header) (c : Connection) → slotWithin h (some c) �
     → (c .number < h .connection)
     × (isBelow (phaseTicket (c .session .phase)) (h .ticket) ≡ true)
     × (h .sealed ≡ true)
-    × (sentWithin (c .session .phase) ≡ true)
-    × (nameWithin (c .session) ≡ true)
+    × (Sessions.wellFormed (c .session) ≡ true)
 unfolding slotWithin
 connection-parts h c w =
     let below = isBelow (phaseTicket (c .session .phase)) (h .ticket) in
-    let fits = sentWithin (c .session .phase) && nameWithin (c .session) in
+    let fits = Sessions.wellFormed (c .session) in
     let a = both (ltb (c .number) (h .connection)) (below && (h .sealed && fits)) w in
     let b = both below (h .sealed && fits) (a .1) in
     let d = both (h .sealed) fits (b .1) in
-    let f = both (sentWithin (c .session .phase)) (nameWithin (c .session)) (d .1) in
-    (ltb-true (c .number) (h .connection) (a .0), b .0, d .0, f .0, f .1)
+    (ltb-true (c .number) (h .connection) (a .0), b .0, d .0, d .1)
