@@ -1,17 +1,15 @@
 -- What a call puts into a buffer is of the length stated. Assumes nothing.
 use mathlib.Core.Path.{_≡_, refl, sym, ap, _∙_}
-use mathlib.Core.Bool.{Bool, true, false, cond, _&&_, _||_, or-true, false≢true}
+use mathlib.Core.Bool.{Bool, true, false, cond, _||_, or-true, false≢true}
 use mathlib.Core.List.{List, [], _++_}
 use mathlib.Core.Option.{Option, none, some}
 use Prim.Native.Nat.{ℕ, _+_, _≤_}
 use native.Mathlib.Nat.{zero-add, add-zero}
 use native.Mathlib.Omega.{arith}
-use lib.ListN.{length, drop, replicate}
+use lib.ListN.{length, drop}
 use Rattle.octets.specs.Answers.{written}
-use Rattle.octets.specs.Lists.{isEmpty, same, paddedTo}
+use Rattle.octets.specs.Lists.{isEmpty}
 use Rattle.octets.proofs.Answers.{written-is}
-use Rattle.octets.proofs.Cases.{both}
-use Rattle.octets.proofs.Every.{at-most}
 use Rattle.profile.specs.declared.Profile.{Profile}
 use Rattle.profile.specs.declared.numbers.Identity.{Identity}
 use Rattle.profile.specs.declared.numbers.Identity.the-variants as Identities
@@ -22,15 +20,14 @@ use Rattle.session.specs.Named.{bears}
 use Rattle.session.specs.Octets.{mechanismText, queryOctets, relayOctets}
 use Rattle.session.specs.Session.{signedIn, nameOf}
 use Rattle.session.specs.Standing.{isHeard}
-use Rattle.session.specs.Verdict.{graphic, isName, afterVerdict}
+use Rattle.session.specs.Verdict.{afterVerdict}
 use Rattle.session.specs.View.{view}
 use Rattle.session.specs.WellFormed as Sessions
-use Rattle.session.specs.WellFormed.{nameWithin}
 use Rattle.session.specs.declared.Session.{Session}
 use Rattle.session.specs.declared.answer.Answer.{Answer}
 use Rattle.session.specs.declared.answer.Answer.the-variants as Answers
 use Rattle.session.specs.declared.view.View.{View}
-use Rattle.session.proofs.Laws.{session-parts, line-measures, line-heard-fits, verdict-heard-fits}
+use Rattle.session.proofs.Laws.{line-measures, line-heard-fits, verdict-heard-fits, name-fits}
 use Rattle.lines.specs.Mechanism.{padded}
 use Rattle.server.specs.Line.{isQuery, relaysAddress, lineStep, responseFound, responseOn}
 use Rattle.server.specs.Mechanisms.{offered}
@@ -102,13 +99,11 @@ line-stated p v l t Answers.EmptyChallenge m = record { only = or-true (isEmpty 
 line-stated p v l t Answers.Challenge m = record { only = or-true (isEmpty (heard p [] Answers.Challenge)); fits = omega arith; states = sym (add-zero _) }
 
 -- a name has at most 64 octets
-name-fits : (s : Session) → Sessions.wellFormed s ≡ true → length (nameIn (bears s)) ≤ longestName
-unfolding nameWithin
-name-fits s w = go (signedIn (s .phase)) (session-parts s w .1)
+borne-fits : (s : Session) → Sessions.wellFormed s ≡ true → length (nameIn (bears s)) ≤ longestName
+borne-fits s w = go (signedIn (s .phase)) refl
   where
-    go : (b : Bool) → cond b (isName (nameOf s) && same (s .name) (paddedTo longestName (nameOf s))) (same (s .name) (replicate longestName 0)) ≡ true
-        → length (nameIn (cond b (some (nameOf s)) none)) ≤ longestName
-    go true e = at-most longestName graphic (nameOf s) (both (isName (nameOf s)) (same (s .name) (paddedTo longestName (nameOf s))) e .0)
+    go : (b : Bool) → signedIn (s .phase) ≡ b → length (nameIn (cond b (some (nameOf s)) none)) ≤ longestName
+    go true e = name-fits s w e
     go false e = omega arith
 
 -- the octets that a line has for the service
@@ -159,7 +154,7 @@ lengths i {s = s} {z = z} w e (Moves.judges t k d c v g f x) =
     (verdict-heard-one (c .session) t v d x)
 lengths i w e (Moves.ends n c f) = record { alone = refl; reply = omega arith; answer = omega arith; name = omega arith; stated = refl }
 lengths i {s = s} w e (Moves.tells n c f) =
-    record { alone = refl; reply = omega arith; answer = omega arith; name = name-fits (c .session) (found-open s (parts s w) (isNumbered n) c f .session); stated = refl }
+    record { alone = refl; reply = omega arith; answer = omega arith; name = borne-fits (c .session) (found-open s (parts s w) (isNumbered n) c f .session); stated = refl }
 lengths i w e (Moves.closes n c f) = record { alone = refl; reply = omega arith; answer = omega arith; name = omega arith; stated = refl }
 
 pub lengths-stated : LengthsStated

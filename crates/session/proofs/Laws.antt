@@ -6,7 +6,9 @@ use mathlib.Core.Option.{none, some}
 use Prim.Native.Nat.{ℕ, _≤_}
 use native.Mathlib.Omega.{arith}
 use lib.ListN.{length, replicate, length-append}
-use Rattle.octets.specs.Lists.{same}
+use Rattle.octets.specs.Lists.{same, paddedTo}
+use Rattle.octets.proofs.Cases.{both}
+use Rattle.octets.proofs.Every.{at-most}
 use Rattle.octets.proofs.Words.{same-refl}
 use Rattle.base64.proofs.Laws.{length-encode}
 use Rattle.profile.specs.Texts.{isChallenge}
@@ -27,7 +29,7 @@ use Rattle.session.specs.declared.Phase.{Phase}
 use Rattle.session.specs.declared.Phase.the-variants as Phases
 use Rattle.session.specs.Answer.{challenge, heard, isChallengeAnswer}
 use Rattle.session.specs.Line.{afterLine}
-use Rattle.session.specs.Verdict.{given, afterVerdict}
+use Rattle.session.specs.Verdict.{graphic, isName, given, afterVerdict}
 use Rattle.session.specs.MailEnded.{afterMail}
 use Rattle.session.specs.Standing.{quiet, standing, stands, isHeard, isRefused}
 use Rattle.session.specs.Named.{bears, waitsOn, grants}
@@ -113,6 +115,12 @@ module _ (s : Session) (t : ℕ) (v : Verdict) (d : List ℕ) where
 -- nobody is signed in who waits on a ticket
 pub waiting-nobody : (s : Session) (t k : ℕ) → s .phase ≡ Phases.Waiting t k → bears s ≡ none
 waiting-nobody s t k e = ap (λ (p : Phase). cond (signedIn p) (some (nameOf s)) none) e
+
+-- a name has at most 64 octets
+pub name-fits : (s : Session) → wellFormed s ≡ true → signedIn (s .phase) ≡ true → length (nameOf s) ≤ longestName
+unfolding nameWithin
+name-fits s w e =
+    at-most longestName graphic (nameOf s) (both (isName (nameOf s)) (same (s .name) (paddedTo longestName (nameOf s))) (rw e at (session-parts s w .1)) .0)
 
 -- the end of a transaction alters nothing else
 module _ (s : Session) where

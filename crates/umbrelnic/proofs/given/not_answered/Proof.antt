@@ -1,0 +1,10 @@
+use borrow.Author.Needs.{needs}
+use Rattle.umbrelnic.proofs.given.not_answered.Statement.{statement}
+use Rattle.umbrelnic.proofs.given.not_answered.Tie as tie
+
+pub not-answered-spec : {M : Type 1} → statement M
+not-answered-spec =
+    tie.close
+    (tie.spec
+    (λ c κs. search needs)
+    (λ c. rw (c .number .ensures)))

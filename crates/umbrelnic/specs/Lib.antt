@@ -1,0 +1,3 @@
+-- The functions that a host in C calls.
+pub mod Given
+pub mod Private
