@@ -1,8 +1,8 @@
 -- A line, exit by exit. Assumes nothing.
 use mathlib.Core.Path.{_≡_, refl, sym, ap, _∙_}
-use mathlib.Core.Bool.{Bool, true, false, cond, not, _&&_, false≢true}
+use mathlib.Core.Bool.{true, false, cond, not, _&&_, false≢true}
 use mathlib.Core.List.{List, []}
-use mathlib.Core.Option.{Option, some}
+use mathlib.Core.Option.{Option}
 use Prim.Native.Nat.{ℕ, _≤_}
 use native.Mathlib.Omega.{arith}
 use borrow.Author.Tests.{eqb-true, leb-true, not-false}
@@ -11,6 +11,7 @@ use lib.ListN.{length}
 use Rattle.octets.specs.Answers.{written}
 use Rattle.octets.proofs.Cases.{both}
 use Rattle.lines.specs.Mechanism.{padded}
+use Rattle.profile.specs.declared.numbers.Refusal.{Refusal}
 use Rattle.profile.specs.declared.numbers.Refusal.the-variants as Refusals
 use Rattle.session.specs.Answer.{heard, numbers}
 use Rattle.session.specs.Limits.{replyBuffer, unissued}
@@ -32,16 +33,17 @@ use Rattle.server.specs.Server.{Server}
 use Rattle.server.specs.Slots.{isNumbered, holding, found}
 use Rattle.server.specs.declared.Connection.{Connection}
 use Rattle.server.proofs.Issues.{Issues, line-issues}
-use Rattle.image.specs.declared.Found.the-variants.{At, Nothing}
+use Rattle.image.specs.declared.Found.the-variants.{At}
 use Rattle.image.specs.Image.{Image}
 use Rattle.image.specs.InPlace.{isTaken, readServer, headerRead, mechanismsRead, connectionRead, slotFound}
-use Rattle.image.proofs.Laws.{taken-own, own-size, header-read, mechanisms-read, connection-found, connection-passes, connection-absent}
+use Rattle.image.proofs.Laws.{taken-own, own-size, header-read, mechanisms-read, connection-found, connection-passes}
 use Rattle.calls.specs.Call as Call
 use Rattle.calls.specs.Call.{isShort}
-use Rattle.calls.specs.Step.{lent, outOf, step, resultIn, isQueried, relayedIn, responseLent}
+use Rattle.calls.specs.Step.{lent, outOf, step, responseLent}
 use Rattle.umbrelnic.specs.Given.{lineNumbers}
-use Rattle.umbrelnic.specs.Private.{keptIn, issuedIn, handedIn, LineDone}
-use Rattle.umbrelnic.proofs.Exits.{refusedOut, step-on}
+use Rattle.umbrelnic.specs.Private.{placed, keptIn, issuedIn, handedIn, LineDone}
+use Rattle.umbrelnic.specs.declared.finding.Place.the-variants as Places
+use Rattle.umbrelnic.proofs.Exits.{refusedOut, step-on, step-refused}
 use Rattle.umbrelnic.proofs.Settles.{Settled, settles, keeps-issued, hands}
 
 -- buffers that are not short have room
@@ -74,15 +76,15 @@ unrelayed (Answers.Reply r) x e = refl
 unrelayed Answers.EmptyChallenge x e = refl
 unrelayed Answers.Challenge x e = refl
 
+pub line-refused : (l : Image) (n : ℕ) (x reply answer : List ℕ) → isShort (Call.line n x reply answer) ≡ false → (j : Refusal)
+    → Places.Refused j ≡ placed Refusals.NoConnection (holding (isNumbered n)) l → step l (Call.line n x reply answer) ≡ refusedOut l j
+unfolding on onLine
+line-refused l n x reply answer long = step-refused l (Call.line n x reply answer) Refusals.NoConnection (isNumbered n) long refl (λ s e. ap (lineFound s x) e)
+
 module _ (l : Image) (n : ℕ) (x reply answer : List ℕ) (t : isTaken l ≡ true) (long : isShort (Call.line n x reply answer) ≡ false) where
   line-on : step l (Call.line n x reply answer) ≡ outOf l (Requests.line n x) (lineFound (readServer l) x (found (isNumbered n) (readServer l .slots)))
   unfolding on onLine
   line-on = step-on l (Call.line n x reply answer) (readServer l) long (taken-own l t .0)
-
-  pub line-absent : slotFound (holding (isNumbered n)) l ≡ Nothing → step l (Call.line n x reply answer) ≡ refusedOut l Refusals.NoConnection
-  line-absent e =
-      line-on
-      ∙ ap (λ (c : Option Connection). outOf l (Requests.line n x) (lineFound (readServer l) x c)) (connection-absent (isNumbered n) l (own-size l t) e)
 
   module _ (i : ℕ) (e : slotFound (holding (isNumbered n)) l ≡ At i) where
     numbered : connectionRead l i .number ≡ n

@@ -1,10 +1,9 @@
 -- Open, exit by exit. Assumes nothing.
 use mathlib.Core.Path.{_≡_, refl, sym, ap, _∙_}
-use mathlib.Core.Bool.{Bool, true, false}
+use mathlib.Core.Bool.{Bool, true}
 use mathlib.Core.Option.{some}
 use Prim.Native.Nat.{ℕ, _<_, _≤_}
 use borrow.Author.Tests.{eq-eqb, ne-eqb, le-leb, lt-leb}
-use lib.Dec.{eqb}
 use Rattle.profile.specs.Numbers.{profileOf}
 use Rattle.profile.specs.declared.ListedProfile.{ListedProfile}
 use Rattle.profile.specs.declared.ListedProfile.the-variants.{Known, Unlisted}

@@ -8,16 +8,13 @@ use native.Mathlib.Omega.{arith}
 use borrow.Author.Tests.{le-leb}
 use lib.ListN.{length}
 use Rattle.octets.specs.Answers.{written, encoded}
-use Rattle.octets.specs.declared.Encoded.{Encoded}
 use Rattle.octets.specs.declared.Encoded.the-variants.{End, Short}
-use Rattle.base64.specs.Base64 as Base64
-use Rattle.xtext.specs.Xtext as Xtext
 use Rattle.profile.specs.declared.Profile.{Profile}
 use Rattle.profile.specs.declared.numbers.Identity.{Identity}
 use Rattle.profile.specs.declared.numbers.Identity.the-variants as Identities
 use Rattle.session.specs.Answer.{heard, numbers}
 use Rattle.session.specs.Measures.{Relays, Measures}
-use Rattle.session.specs.Octets.{responseText, queryOctets, relayText, relayOctets}
+use Rattle.session.specs.Octets.{queryOctets, relayOctets}
 use Rattle.session.specs.Standing.{isRefused}
 use Rattle.session.specs.declared.Session.{Session}
 use Rattle.session.specs.declared.answer.Answer.{Answer}

@@ -1,8 +1,8 @@
 -- A verdict, exit by exit. Assumes nothing.
 use mathlib.Core.Path.{_≡_, refl, sym, ap, _∙_}
-use mathlib.Core.Bool.{Bool, true, false, cond, false≢true}
+use mathlib.Core.Bool.{true, false, false≢true}
 use mathlib.Core.List.{List, []}
-use mathlib.Core.Option.{Option, none, some}
+use mathlib.Core.Option.{some}
 use Prim.Native.Nat.{ℕ, _≤_}
 use native.Mathlib.Omega.{arith}
 use lib.ListN.{length}
@@ -10,6 +10,7 @@ use Rattle.octets.specs.Answers.{written}
 use Rattle.profile.specs.Numbers.{verdictOf}
 use Rattle.profile.specs.declared.numbers.ListedVerdict.{ListedVerdict}
 use Rattle.profile.specs.declared.numbers.ListedVerdict.the-variants.{Known, Unlisted}
+use Rattle.profile.specs.declared.numbers.Refusal.{Refusal}
 use Rattle.profile.specs.declared.numbers.Refusal.the-variants as Refusals
 use Rattle.profile.specs.declared.numbers.Verdict.{Verdict}
 use Rattle.session.specs.Answer.{heard, numbers}
@@ -24,21 +25,20 @@ use Rattle.server.specs.Line.{isQuery, withSession}
 use Rattle.server.specs.Outcome.{refuses}
 use Rattle.server.specs.Requests as Requests
 use Rattle.server.specs.Requests.{on}
-use Rattle.server.specs.Server.{Server}
-use Rattle.server.specs.Slots.{isWaiting, holding, found}
+use Rattle.server.specs.Slots.{isWaiting, holding}
 use Rattle.server.specs.Verdict.{verdictFound, onVerdict}
-use Rattle.server.specs.declared.Connection.{Connection}
 use Rattle.server.proofs.Issues.{verdict-heard-one}
-use Rattle.image.specs.declared.Found.the-variants.{At, Nothing}
+use Rattle.image.specs.declared.Found.the-variants.{At}
 use Rattle.image.specs.Image.{Image}
 use Rattle.image.specs.InPlace.{isTaken, readServer, connectionRead, slotFound}
-use Rattle.image.proofs.Laws.{taken-own, own-size, connection-found, connection-absent}
+use Rattle.image.proofs.Laws.{taken-own, connection-found}
 use Rattle.calls.specs.Call as Call
 use Rattle.calls.specs.Call.{isShort}
-use Rattle.calls.specs.Step.{lent, outOf, step, resultIn, isQueried, relayedIn, responseLent}
+use Rattle.calls.specs.Step.{outOf, step, resultIn, isQueried, relayedIn}
 use Rattle.umbrelnic.specs.Given.{saidNumbers}
-use Rattle.umbrelnic.specs.Private.{keptIn, judgement, Judged}
-use Rattle.umbrelnic.proofs.Exits.{refusedOut, step-on}
+use Rattle.umbrelnic.specs.Private.{placed, keptIn, judgement, Judged}
+use Rattle.umbrelnic.specs.declared.finding.Place.the-variants as Places
+use Rattle.umbrelnic.proofs.Exits.{refusedOut, step-on, step-refused}
 use Rattle.umbrelnic.proofs.Settles.{Settled, settles, keeps}
 
 -- a verdict asks nothing
@@ -104,7 +104,8 @@ module _ (l : Image) (t n : ℕ) (d reply answer : List ℕ) (k : isTaken l ≡ 
   unfolding on onVerdict
   verdict-on = step-on l (Call.verdict t n d reply answer) (readServer l) long (taken-own l k .0)
 
-  pub verdict-absent : slotFound (holding (isWaiting t)) l ≡ Nothing → step l (Call.verdict t n d reply answer) ≡ refusedOut l Refusals.NoTicket
-  verdict-absent e =
-      verdict-on
-      ∙ ap (λ (c : Option Connection). outOf l (Requests.verdict t n d) (verdictFound (readServer l) t (verdictOf n) d c)) (connection-absent (isWaiting t) l (own-size l k) e)
+pub verdict-refused : (l : Image) (t n : ℕ) (d reply answer : List ℕ) → isShort (Call.verdict t n d reply answer) ≡ false → (j : Refusal)
+    → Places.Refused j ≡ placed Refusals.NoTicket (holding (isWaiting t)) l → step l (Call.verdict t n d reply answer) ≡ refusedOut l j
+unfolding on onVerdict
+verdict-refused l t n d reply answer long =
+    step-refused l (Call.verdict t n d reply answer) Refusals.NoTicket (isWaiting t) long refl (λ s e. ap (verdictFound s t (verdictOf n) d) e)

@@ -11,7 +11,8 @@ use Rattle.xtext.specs.Xtext as Xtext
 use Rattle.lines.specs.Mechanism.{mechanism, padded}
 use Rattle.octets.specs.Answers.{written}
 use Rattle.profile.specs.declared.numbers.ListedVerdict.{ListedVerdict}
-use Rattle.profile.specs.declared.numbers.Refusal.the-variants.{BadName, NamePresent, TableFull, Sealed}
+use Rattle.profile.specs.declared.numbers.Refusal.{Refusal}
+use Rattle.profile.specs.declared.numbers.Refusal.the-variants.{NotTaken, BadName, NamePresent, TableFull, Sealed}
 use Rattle.session.specs.MailEnded.{afterMail}
 use Rattle.session.specs.Octets.{responseText, relayText}
 use Rattle.session.specs.Standing.{isRefused}
@@ -23,19 +24,31 @@ use Rattle.server.specs.Limits.{mostMechanisms}
 use Rattle.server.specs.Line.{isQuery, relaysAddress}
 use Rattle.server.specs.Mechanisms.{offered, isPresent}
 use Rattle.server.specs.Outcome.{Outcome, refuses, gives, done}
-use Rattle.server.specs.Server.{Server}
+use Rattle.server.specs.Server.{Slot, Server}
 use Rattle.server.specs.Slots.{isWaiting, found}
 use Rattle.server.specs.Verdict.{verdictFound}
 use Rattle.server.specs.declared.Connection.{Connection}
 use Rattle.server.specs.declared.Header.{Header}
+use Rattle.image.specs.declared.Found.{Found}
+use Rattle.image.specs.declared.Found.the-variants as Founds
 use Rattle.image.specs.Image.{Image}
-use Rattle.image.specs.InPlace.{readServer, headerWritten, slotWritten}
+use Rattle.image.specs.InPlace.{isTaken, readServer, slotFound, headerWritten, slotWritten}
 use Rattle.calls.specs.Buffers.{heardIn, replyAfter, answerAfter}
 use Rattle.calls.specs.Call.{line}
 use Rattle.calls.specs.Step.{resultIn, imageIn, step}
 use Rattle.umbrelnic.specs.declared.LineAnswer.{LineAnswer}
+use Rattle.umbrelnic.specs.declared.finding.Place.{Place}
+use Rattle.umbrelnic.specs.declared.finding.Place.the-variants as Places
 use Rattle.umbrelnic.specs.declared.Said.{Said}
 use Rattle.umbrelnic.specs.Given.{lineAnswerOf, saidOf}
+
+-- where a search ended, and with the image tested first; k: the refusal where nothing was found
+abbrev pub placeOf : Refusal → Found → Place
+placeOf k (Founds.At i) = Places.At i
+placeOf k Founds.Nothing = Places.Refused k
+
+unfoldable pub placed : Refusal → (Slot → Bool) → Image → Place
+placed k p l = cond (isTaken l) (placeOf k (slotFound p l)) (Places.Refused NotTaken)
 
 -- add, once both yes-or-no are 0 or 1
 abbrev pub addsTo : Server → List ℕ → Bool → Bool → Outcome

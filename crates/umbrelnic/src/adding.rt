@@ -1,8 +1,7 @@
 // A mechanism added to an image that is taken.
 ghost use mathlib.Core.Path.{_≡_};
-ghost use mathlib.Core.Bool.{Bool, true};
-ghost use Rattle.lines.specs.Mechanism.{padded};
-ghost use Rattle.server.specs.Mechanisms.{offered, isPresent};
+ghost use mathlib.Core.Bool.{true};
+ghost use Rattle.server.specs.Mechanisms.{isPresent};
 ghost use Rattle.calls.specs.Numbers.{refusal};
 ghost use Rattle.calls.specs.Step.{resultIn, imageIn};
 ghost use Rattle.image.specs.InPlace.{isTaken, readServer};

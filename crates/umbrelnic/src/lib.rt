@@ -8,13 +8,14 @@ ghost use Rattle.calls.specs.Buffers.{replyAfter, answerAfter, nameAfter};
 ghost use Rattle.calls.specs.Numbers.{refusal};
 ghost use Rattle.calls.specs.Step.{step};
 ghost use Rattle.umbrelnic.specs.Given.{openedOf, lineAnswerOf, saidOf, borneOf};
-use image::Found;
+use finding::Place;
 use profile::ListedProfile;
 use profile::Profile;
 use profile::numbers::Refusal;
 use session::Session;
 
 mod adding;
+mod finding;
 mod given;
 mod opening;
 mod stepping;
@@ -122,13 +123,10 @@ pub extern "C" fn umbrelnic_line(
     if stepping::are_short(reply, answer) {
         return given::not_answered(Refusal::ShortBuffer);
     }
-    if !image::is_taken(image) {
-        return given::not_answered(Refusal::NotTaken);
-    }
-    let found = image::find_connection(image, connection);
-    match found {
-        Found::Nothing => given::not_answered(Refusal::NoConnection),
-        Found::At(i) => stepping::hear(image, i, connection, line, reply, answer),
+    let place = finding::find_connection(image, connection);
+    match place {
+        Place::Refused(refusal) => given::not_answered(refusal),
+        Place::At(i) => stepping::hear(image, i, connection, line, reply, answer),
     }
 }
 
@@ -146,13 +144,10 @@ pub extern "C" fn umbrelnic_verdict(
     if stepping::are_short(reply, answer) {
         return given::not_said(Refusal::ShortBuffer);
     }
-    if !image::is_taken(image) {
-        return given::not_said(Refusal::NotTaken);
-    }
-    let found = image::find_ticket(image, ticket);
-    match found {
-        Found::Nothing => given::not_said(Refusal::NoTicket),
-        Found::At(i) => stepping::judge(image, i, ticket, verdict, bytes, reply),
+    let place = finding::find_ticket(image, ticket);
+    match place {
+        Place::Refused(refusal) => given::not_said(refusal),
+        Place::At(i) => stepping::judge(image, i, ticket, verdict, bytes, reply),
     }
 }
 
@@ -160,13 +155,10 @@ pub extern "C" fn umbrelnic_verdict(
 pub extern "C" fn umbrelnic_mail_ended(image: &mut [u8], connection: u64) -> u64
     ensures { λ r. ⌜ (let did = step (now (image .entry)) (Call.mailEnded connection) in (r ≡ refusal (did .result)) × (now (image .exit) ≡ did .image)) ⌝ }
 {
-    if !image::is_taken(image) {
-        return Refusal::NotTaken.number();
-    }
-    let found = image::find_connection(image, connection);
-    match found {
-        Found::Nothing => Refusal::NoConnection.number(),
-        Found::At(i) => {
+    let place = finding::find_connection(image, connection);
+    match place {
+        Place::Refused(refusal) => refusal.number(),
+        Place::At(i) => {
             stepping::end_mail(image, i);
             0
         }
@@ -180,13 +172,10 @@ pub extern "C" fn umbrelnic_who(image: &[u8], connection: u64, name: &mut [u8]) 
     if name.len() < Session::LONGEST_NAME {
         return given::not_told(Refusal::ShortBuffer);
     }
-    if !image::is_taken(image) {
-        return given::not_told(Refusal::NotTaken);
-    }
-    let found = image::find_connection(image, connection);
-    match found {
-        Found::Nothing => given::not_told(Refusal::NoConnection),
-        Found::At(i) => telling::tell(image, i, name),
+    let place = finding::find_connection(image, connection);
+    match place {
+        Place::Refused(refusal) => given::not_told(refusal),
+        Place::At(i) => telling::tell(image, i, name),
     }
 }
 
@@ -194,13 +183,10 @@ pub extern "C" fn umbrelnic_who(image: &[u8], connection: u64, name: &mut [u8]) 
 pub extern "C" fn umbrelnic_close(image: &mut [u8], connection: u64) -> u64
     ensures { λ r. ⌜ (let did = step (now (image .entry)) (Call.close connection) in (r ≡ refusal (did .result)) × (now (image .exit) ≡ did .image)) ⌝ }
 {
-    if !image::is_taken(image) {
-        return Refusal::NotTaken.number();
-    }
-    let found = image::find_connection(image, connection);
-    match found {
-        Found::Nothing => Refusal::NoConnection.number(),
-        Found::At(i) => {
+    let place = finding::find_connection(image, connection);
+    match place {
+        Place::Refused(refusal) => refusal.number(),
+        Place::At(i) => {
             image::free_slot(image, i);
             0
         }

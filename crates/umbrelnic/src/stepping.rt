@@ -1,7 +1,6 @@
 // A connection stepped where it stands in an image that is taken: by a line, by a verdict, by the end of a transaction.
 ghost use mathlib.Core.Path.{_≡_};
-ghost use mathlib.Core.Bool.{Bool, true, false, not, _&&_};
-ghost use mathlib.Core.List.{[]};
+ghost use mathlib.Core.Bool.{true, false, not, _&&_};
 ghost use mathlib.Core.Option.{some};
 ghost use Prim.Native.Nat.{_≤_};
 ghost use lib.Dec.{eqb, leb};
@@ -11,13 +10,12 @@ ghost use Rattle.lines.specs.Mechanism.{padded};
 ghost use Rattle.profile.specs.Numbers.{verdictOf};
 ghost use Rattle.session.specs.Answer.{heard, numbers};
 ghost use Rattle.session.specs.Limits.{replyBuffer, answerBuffer, unissued};
-ghost use Rattle.session.specs.MailEnded.{afterMail};
 ghost use Rattle.session.specs.Octets.{mechanismText};
 ghost use Rattle.session.specs.Standing.{isRefused};
 ghost use Rattle.server.specs.Line.{isQuery, isAddress, relaysAddress};
 ghost use Rattle.server.specs.Mechanisms.{listed, offered};
 ghost use Rattle.server.specs.Slots.{isNumbered, isWaiting, holding};
-ghost use Rattle.image.specs.InPlace.{isTaken, headerRead, mechanismsRead, connectionRead, slotFound, slotWritten};
+ghost use Rattle.image.specs.InPlace.{isTaken, mechanismsRead, connectionRead, slotFound, slotWritten};
 ghost use Rattle.image.specs.declared.Found.the-variants.{At};
 ghost use Rattle.profile.specs.declared.numbers.ListedVerdict.the-variants.{Known};
 ghost use Rattle.calls.specs.Call as Call;

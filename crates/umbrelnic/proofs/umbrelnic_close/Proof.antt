@@ -1,44 +1,29 @@
 use mathlib.Core.Path.{refl, sym, _∙_}
-use borrow.Author.Tests.{not-true, not-false}
 use borrow.Author.Needs.{needs}
-use Rattle.image.proofs.Laws.{not-taken}
-use Rattle.calls.specs.Call as Call
-use Rattle.umbrelnic.proofs.Exits.{step-untaken, close-absent, close-done}
+use Rattle.umbrelnic.proofs.Exits.{close-refused, close-done}
 use Rattle.umbrelnic.proofs.umbrelnic_close.Statement.{statement}
 use Rattle.umbrelnic.proofs.umbrelnic_close.Tie as tie
 
 returns : tie.Need-returns
 returns c =
-    let a = c .before .before .before .before .before .args in
-    rw (step-untaken (a .image .now) (Call.close (a .connection)) refl (not-taken (a .image .now) (sym (c .before .before .is-taken .ensures) ∙ not-true _ (c .before .if1 .taken))))
-    (c .number .ensures, refl)
+    let a = c .before .before .before .before .before .before .before .args in
+    rw (close-refused (a .image .now) (a .connection) _ (sym (c .before .before .place .given .1) ∙ c .before .before .before .before .find-connection .ensures)) (c .number .ensures, refl)
 
 returns-2 : tie.Need-returns-2
 returns-2 c =
-    let a = c .before .before .before .before .before .before .before .before .before .args in
-    rw (close-absent (a .image .now) (a .connection) (sym (c .before .before .before .before .before .before .is-taken .ensures) ∙ not-false _ (c .before .before .before .before .before .if1 .left)) (sym (c .before .before .before .find-connection .ensures) ∙ c .before .enum-told .given .1))
-    (c .number2 .ensures, refl)
-
-returns-3 : tie.Need-returns-3
-returns-3 c =
-    let a = c .before .before .before .before .before .before .before .before .before .before .before .before .before .args in
-    rw (close-done (a .image .now) (a .connection) (sym (c .before .before .before .before .before .before .before .before .before .before .is-taken .ensures) ∙ not-false _ (c .before .before .before .before .before .before .before .before .before .if1 .left)) _ (sym (c .before .before .before .before .before .before .before .find-connection .ensures) ∙ c .before .before .before .before .before .found .given .1))
-    (refl, c .before .before .free-slot .ensures)
+    let a = c .before .before .before .before .before .before .before .before .before .before .args in
+    rw (close-done (a .image .now) (a .connection) _ (sym (c .before .before .before .before .before .place2 .given .1) ∙ c .before .before .before .before .before .before .before .find-connection .ensures)) (refl, c .before .before .free-slot .ensures)
 
 pub umbrelnic-close-spec : {M : Type 1} → statement M
 umbrelnic-close-spec =
     tie.close
     (tie.spec
     (λ c κs. search needs)
+    (λ c. search needs)
+    (λ c κs. search needs)
+    (λ c. search needs)
     (λ c κs. search needs)
     (λ c. search needs)
     returns
-    (λ c κs. search needs)
     (λ c. search needs)
-    (λ c κs. search needs)
-    (λ c. search needs)
-    (λ c κs. search needs)
-    (λ c. search needs)
-    returns-2
-    (λ c. search needs)
-    returns-3)
+    returns-2)
