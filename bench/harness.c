@@ -103,8 +103,8 @@ static void time_table(const struct table *table, size_t length, size_t size) {
     static double times[MOST_ROWS][MOST_ROUNDS];
     static double ratios[MOST_ROUNDS];
     size_t rounds = rounds_wanted();
-    /* about as long a measurement for each length */
-    size_t calls = 200000 / (length + 20) + 1;
+    /* about as long a measurement for each input */
+    size_t calls = 200000 / (size + 20) + 1;
     for (size_t k = 0; k < rounds; k++) {
         for (size_t r = 0; r < table->row_count; r++) {
             times[r][k] = time_of_a_call(&table->rows[r], size, calls);

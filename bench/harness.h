@@ -1,5 +1,5 @@
 /* What all benchmarks share: the tables of time and of instructions, the count of comparisons, and the three modes. A
-   program (base64.c, xtext.c, lines.c) says what its functions are and makes its inputs. */
+   program (base64.c, xtext.c, lines.c, calls.c) says what its functions are and makes its inputs. */
 #ifndef HARNESS_H
 #define HARNESS_H
 #include <stdbool.h>

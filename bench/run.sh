@@ -1,16 +1,19 @@
 #!/bin/sh
-# Measures the proved base64, xtext and readings of lines beside plain C, and beside the base64 of the libraries that are installed.
+# Measures the proved base64, xtext and readings of lines beside plain C, and beside the base64 of the libraries that are installed;
+# and the calls beside the model in host/, which is plain C too.
 #   bench/run.sh          prints the tables: instructions, then times, as ratios to plain C
 #   bench/run.sh check    only compares the answers and buffers with those of plain C
 #   bench/run.sh limit    compares, and counts instructions: fails where the proved one takes more than
-#                         LIMIT (1.15), of lines LIMIT_LINES (2.7), of plain C's at 64 letters or octets or more
-# ROUNDS (60) is the number of rounds that a time is the median of. Needs rt and gcc; what else is missing is said and left out.
+#                         LIMIT (1.15), of lines LIMIT_LINES (2.7), of plain C's at 64 letters or octets or more,
+#                         and of calls LIMIT_CALLS (2.0) at every number of connections
+# FORMS (all) says which of base64, xtext, lines and calls are measured. ROUNDS (60) is the number of rounds that a time is the median
+# of. Needs rt and gcc; what else is missing is said and left out.
 set -eu
 
 here=$(cd "$(dirname "$0")" && pwd)
 root=$(dirname "$here")
 out=$root/target/bench
-forms='base64 xtext lines'
+forms=${FORMS:-base64 xtext lines calls}
 mode=${1:-tables}
 case $mode in
 tables | check | limit) ;;
@@ -36,6 +39,7 @@ has() {
 face_of() {
     case $1 in
     lines) echo lineface ;;
+    calls) echo umbrelnic ;;
     *) echo benchface ;;
     esac
 }
@@ -48,28 +52,35 @@ prove() {
     fi
 }
 
+# what a form is compiled from, beside itself
+sources_of() {
+    case $1 in
+    lines) echo "$here/plain_lines.c $here/plain_base64.c" ;;
+    calls) echo "$root/host/face.c $root/host/model.c $root/host/model_lines.c" ;;
+    *) echo "$here/plain_$1.c $here/forms.c" ;;
+    esac
+}
+
 build() {
     mkdir -p "$out"
-    prove benchface
-    prove lineface
+    for face in $(for form in $forms; do face_of "$form"; done | sort -u); do
+        prove "$face"
+    done
     has VALGRIND valgrind/callgrind.h '' ''
     has OPENSSL openssl/evp.h '' -lcrypto
     has GSASL gsasl.h '' -lgsasl
     has GLIB glib.h "$(pkg-config --cflags glib-2.0 2>/dev/null || :)" "$(pkg-config --libs glib-2.0 2>/dev/null || :)"
     for form in $forms; do
-        case $form in
-        lines) with=$here/plain_base64.c ;;
-        *) with=$here/forms.c ;;
-        esac
-        gcc -std=c11 -O2 -Wall -Wextra $flags -o "$out/$form" "$here/$form.c" "$here/plain_$form.c" "$with" "$here/harness.c" \
+        gcc -std=c11 -O2 -Wall -Wextra $flags -o "$out/$form" "$here/$form.c" $(sources_of "$form") "$here/harness.c" \
             "$root/target/staticlib/lib$(face_of "$form").a" $libs
     done
 }
 
-# what a length counts, and how much more than plain C the proved one may take
+# what a length counts, how much more than plain C the proved one may take, and from which length on
 unit_of() {
     case $1 in
     lines) echo octets ;;
+    calls) echo connections ;;
     *) echo letters ;;
     esac
 }
@@ -77,7 +88,15 @@ unit_of() {
 limit_of() {
     case $1 in
     lines) echo "${LIMIT_LINES:-2.7}" ;;
+    calls) echo "${LIMIT_CALLS:-2.0}" ;;
     *) echo "${LIMIT:-1.15}" ;;
+    esac
+}
+
+judged_from() {
+    case $1 in
+    calls) echo 1 ;;
+    *) echo 64 ;;
     esac
 }
 
@@ -150,8 +169,8 @@ print_tables() {
 
 # fails where the proved one takes too many instructions
 judge() {
-    awk -F'\t' -v form="$1" -v limit="$(limit_of "$1")" -v length_unit="$(unit_of "$1")" '
-        $4 == "proved" && $3 >= 64 {
+    awk -F'\t' -v form="$1" -v limit="$(limit_of "$1")" -v length_unit="$(unit_of "$1")" -v from="$(judged_from "$1")" '
+        $4 == "proved" && $3 >= from + 0 {
             judged++
             if ($5 > most) most = $5
             if ($5 > limit) {

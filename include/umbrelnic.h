@@ -18,8 +18,8 @@
  *     then lost.) An image may be copied, saved and lent again.
  * Nothing else is owed: any number, any octets and any lengths may be passed.
  *
- * Every call gives a refusal, 0 where there is none. A refused call changes neither the image nor any other buffer, and every other number
- * that it gives is 0. Where more than one refusal would fit, the one that stands first at the call is given.
+ * Every call gives a refusal, 0 where there is none: look at it first. A refused call changes neither the image nor any other buffer, and every
+ * other number that it gives is 0. Where more than one refusal would fit, the one that stands first at the call is given.
  *
  * No call keeps a pointer, allocates, blocks, or calls back.
  */
@@ -65,7 +65,7 @@ extern "C" {
 #define UMBRELNIC_NAME_PRESENT 9    /* a mechanism with this name was added already */
 #define UMBRELNIC_TABLE_FULL 10     /* eight mechanisms were added already */
 #define UMBRELNIC_SEALED 11         /* mechanisms are added before the first connection is opened */
-#define UMBRELNIC_NOT_TAKEN 20      /* these octets are no image that the desk has written, or not UMBRELNIC_IMAGE_OCTETS many */
+#define UMBRELNIC_NOT_TAKEN 20      /* these octets are not those of any desk, or not UMBRELNIC_IMAGE_OCTETS many */
 
 /* ---- profiles */
 

@@ -22,4 +22,4 @@ pub use Rattle.codec.proofs.Listed.{put-none, canonical-option, upTo-no
 pub use Rattle.codec.proofs.Listed.{listed-get, listed-length, listed-place, every-listed, canonical-listed, canonical-listed-every}
 pub use Rattle.codec.proofs.Listed.{placeAt, canonical-places, canonical-places-every}
 -- tests of each element of a list of any type
-pub use Rattle.codec.proofs.Every.{every-turn, every-pass, every-fail, every-done, all-turn, all-end, every-all, every-intro, every-append, every-set}
+pub use Rattle.codec.proofs.Every.{every-turn, every-pass, every-fail, every-done, all-turn, all-end}

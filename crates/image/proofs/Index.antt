@@ -12,7 +12,7 @@ use lib.ListN.{length, getD}
 use Rattle.octets.specs.Lists.{every, same}
 use Rattle.octets.proofs.Cases.{both}
 use Rattle.octets.proofs.Words.{same-refl}
-use Rattle.codec.proofs.Every.{every-all}
+use Rattle.octets.proofs.Every.{every-all}
 use Rattle.server.specs.Server.{Server}
 use Rattle.server.specs.WellFormed.{numberOf, ticketOf, clashes, apart, differ, sameName, wellFormed}
 use Rattle.server.specs.declared.Mechanism.{Mechanism}

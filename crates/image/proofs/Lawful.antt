@@ -32,7 +32,7 @@ use Rattle.server.specs.WellFormed.{isBelow, phaseTicket, slotWithin, mechanism
 use Rattle.server.specs.declared.Connection.{Connection}
 use Rattle.server.specs.declared.Header.{Header}
 use Rattle.server.specs.declared.Mechanism.{Mechanism}
-use Rattle.codec.proofs.Every.{every-all}
+use Rattle.octets.proofs.Every.{every-all}
 use Rattle.session.proofs.Laws.{session-parts}
 use Rattle.server.proofs.Within.{server-parts, header-parts, mechanisms-parts, mechanism-parts, slots-parts, connection-parts}
 use Rattle.image.specs.Layout.{profileAt, profile, phaseNumber, phaseSent, phaseWaits, phaseAt, phase, session, connection, slot, mechanism, header, server}

@@ -1,6 +1,7 @@
 // Mechanism names: their form, and the twenty octets in which one is kept and compared.
 ghost use mathlib.Core.Path.{_≡_};
-ghost use Rattle.octets.specs.Lists.{same};
+ghost use mathlib.Core.Bool.{_&&_};
+ghost use Rattle.octets.specs.Lists.{same, before};
 ghost use Rattle.lines.specs.Mechanism.{mechChar, mechanism, padded};
 
 // Whether an octet may stand in a mechanism's name.
@@ -37,6 +38,19 @@ pub fn name_of(name: &[u8]) -> [u8; 20]
     let mut kept: [u8; 20] = [0; 20];
     octets::write(octets::part(name, 0, 20), &mut kept, 0);
     kept
+}
+
+// Whether twenty octets are a name, padded with NUL: after the first, each is NUL or an octet of a name that comes after no NUL.
+pub fn is_padded_name(name: [u8; 20]) -> bool
+    ensures { λ r. ⌜ r ≡ (mechanism (before 0 name) && same name (padded (before 0 name))) ⌝ }
+{
+    let mut ok = is_mech_char(name[0]);
+    let mut i: usize = 1;
+    while i < 20 {
+        ok = ok & ((name[i] == 0) | is_mech_char(name[i]) & (name[i - 1] != 0));
+        i += 1;
+    }
+    ok
 }
 
 // Whether two names are the same.

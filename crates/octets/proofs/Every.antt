@@ -1,13 +1,14 @@
 -- Lists of which each element passes a test: at an index, as a loop needs it, and with their length. Assumes nothing.
 use mathlib.Core.Path.{_≡_, refl, sym, _∙_, ap}
-use mathlib.Core.Bool.{Bool, true, false, _&&_, false≢true}
-use mathlib.Core.List.{List, [], _∷_}
-use Prim.Native.Nat.{ℕ, _+_, _<_, _≤_}
+use mathlib.Core.Bool.{Bool, true, false, _&&_, and-assoc, false≢true}
+use mathlib.Core.List.{List, [], _∷_, _++_}
+use Prim.Native.Nat.{ℕ, zero, suc, _+_, _<_, _≤_, suc-le-suc}
+use native.Mathlib.Nat.{not-suc-le-zero, le-of-suc-le-suc}
 use native.Mathlib.Numerals.{add-one}
 use native.Mathlib.Omega.{arith}
 use borrow.Author.Tests.{ne-eqb, le-leb, lt-leb, leb-true}
 use lib.Dec.{leb}
-use lib.ListN.{length, getD, drop, drop-of-length-le}
+use lib.ListN.{length, getD, set, drop, drop-of-length-le}
 use lib.Seq.{drop-cons}
 use Rattle.octets.specs.Lists.{holds, every, oneTo, before, paddedTo}
 use Rattle.octets.proofs.Cases.{both}
@@ -57,3 +58,29 @@ module _ (n : ℕ) (f : ℕ → Bool) (l : List ℕ) where
   pub unpadded : f 0 ≡ false → oneTo n f l ≡ true → before 0 (paddedTo n l) ≡ l
   unfolding oneTo
   unpadded z h = before-padded n l (at-most h) (not-held f 0 l z (both (leb 1 (length l) && leb (length l) n) (every f l) h .1))
+
+-- a list of any type
+module _ {A : Type 0} (p : A → Bool) where
+  -- from the test to an element, and back
+  pub every-all : (xs : List A) (d : A) → every p xs ≡ true → (i : ℕ) → i < length xs → p (getD xs i d) ≡ true
+  unfolding every
+  every-all [] d e i h = absurd (not-suc-le-zero h)
+  every-all (x ∷ xs) d e zero h = both (p x) (every p xs) e .0
+  every-all (x ∷ xs) d e (suc i) h = every-all xs d (both (p x) (every p xs) e .1) i (le-of-suc-le-suc h)
+
+  pub every-intro : (xs : List A) (d : A) → ((i : ℕ) → i < length xs → p (getD xs i d) ≡ true) → every p xs ≡ true
+  unfolding every
+  every-intro [] d h = refl
+  every-intro (x ∷ xs) d h = rw (h 0 (omega arith)) (every-intro xs d (λ i k. h (suc i) (suc-le-suc k)))
+
+  pub every-append : (xs ys : List A) → every p (xs ++ ys) ≡ (every p xs && every p ys)
+  unfolding every
+  every-append [] ys = refl
+  every-append (x ∷ xs) ys = rw (every-append xs ys) (sym (and-assoc (p x) (every p xs) (every p ys)))
+
+  -- an element that passes, stored
+  pub every-set : (xs : List A) (i : ℕ) (v : A) → every p xs ≡ true → p v ≡ true → every p (set xs i v) ≡ true
+  unfolding every
+  every-set [] i v e h = refl
+  every-set (x ∷ xs) zero v e h = rw h (both (p x) (every p xs) e .1)
+  every-set (x ∷ xs) (suc i) v e h = rw (both (p x) (every p xs) e .0) (every-set xs i v (both (p x) (every p xs) e .1) h)

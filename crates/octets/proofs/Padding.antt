@@ -1,5 +1,5 @@
 -- Texts padded with NUL, told in one pass without a branch. Assumes nothing.
-use mathlib.Core.Path.{_≡_, refl, sym, ap}
+use mathlib.Core.Path.{_≡_, refl, sym}
 use mathlib.Core.Bool.{Bool, true, false, not, cond, _&&_, _||_, and-assoc, and-true, and-false}
 use mathlib.Core.List.{List, [], _∷_, _++_}
 use Prim.Native.Nat.{ℕ, zero, suc, _+_, _-_, _<_, _≤_}
@@ -10,7 +10,6 @@ use lib.Dec.{eqb, leb}
 use lib.ListN.{length, getD, drop, take, replicate, drop-of-length-le}
 use lib.Seq.{drop-cons}
 use Rattle.octets.specs.Lists.{every, oneTo, same, before, paddedTo}
-use Rattle.octets.proofs.Padded.{take-replicate}
 use Rattle.octets.proofs.Words.{length-before}
 
 -- a turn of the test that a list is NUL alone: b, whether the octets before index i are
@@ -95,22 +94,3 @@ module _ (f : ℕ → Bool) where
   pub run-end : (b : Bool) (y : ℕ) (l : List ℕ) (i : ℕ) → length l ≤ i → (b && run y (drop i l)) ≡ b
   unfolding run
   run-end b y l i h = rw (drop-of-length-le l {i = i} h) (and-true b)
-
--- the rest of a text that is padded with NUL
-rest : (k : ℕ) (l : List ℕ) → length l ≤ k
-    → same (drop (length (before 0 l)) l) (replicate (length (drop (length (before 0 l)) l)) 0) ≡ same l (take (length l) (before 0 l ++ replicate k 0))
-unfolding same before
-rest k [] h = refl
-rest k (x ∷ l) h = go (eqb x 0) (rest k l (omega arith))
-  where
-    go : (t : Bool)
-        → same (drop (length (before 0 l)) l) (replicate (length (drop (length (before 0 l)) l)) 0) ≡ same l (take (length l) (before 0 l ++ replicate k 0))
-        → same (drop (length (cond t [] (x ∷ before 0 l))) (x ∷ l)) (replicate (length (drop (length (cond t [] (x ∷ before 0 l))) (x ∷ l))) 0)
-        ≡ same (x ∷ l) (take (suc (length l)) (cond t [] (x ∷ before 0 l) ++ replicate k 0))
-    go true e = ap (λ (m : List ℕ). same (x ∷ l) m) (take-replicate (suc (length l)) k h)
-    go false e = rw (eq-eqb x x refl) e
-
-pub blank-rest : (l : List ℕ)
-    → same (drop (length (before 0 l)) l) (replicate (length (drop (length (before 0 l)) l)) 0) ≡ same l (paddedTo (length l) (before 0 l))
-unfolding paddedTo
-blank-rest l = rest (length l) l (omega arith)

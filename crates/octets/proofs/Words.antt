@@ -1,6 +1,6 @@
 -- What stands before an octet and after it, and whether two lists are the same: at an index, as a loop needs it, and as a whole. Assumes nothing.
 use mathlib.Core.Path.{_≡_, refl, sym, _∙_, ap}
-use mathlib.Core.Bool.{Bool, true, false, cond, _||_, false≢true}
+use mathlib.Core.Bool.{Bool, true, false, cond, _&&_, _||_, and-assoc, and-true, false≢true}
 use mathlib.Core.List.{List, [], _∷_, _++_}
 use Prim.Native.Nat.{ℕ, zero, suc, _+_, _-_, _<_, _≤_}
 use native.Mathlib.Numerals.{add-one}
@@ -40,6 +40,15 @@ module _ (a b : List ℕ) (i : ℕ) where
   pub same-end : length a ≤ i → length b ≤ i → same (drop i a) (drop i b) ≡ true
   unfolding same
   same-end h k = rw (drop-of-length-le a {i = i} h, drop-of-length-le b {i = i} k)
+
+-- the same without a branch: t, whether the octets before index i are the same
+module _ (t : Bool) (a b : List ℕ) (i : ℕ) where
+  pub same-turn : i < length a → i < length b → (t && eqb (getD a i 0) (getD b i 0) && same (drop (i + 1) a) (drop (i + 1) b)) ≡ (t && same (drop i a) (drop i b))
+  unfolding same
+  same-turn h k = rw (add-one, drop-cons a i 0 h, drop-cons b i 0 k) (and-assoc t _ _)
+
+  pub same-last : length a ≤ i → length b ≤ i → (t && same (drop i a) (drop i b)) ≡ t
+  same-last h k = rw (same-end a b i h k) (and-true t)
 
 -- lists are the same exactly when they are equal
 pub same-true : (a b : List ℕ) → same a b ≡ true → a ≡ b

@@ -56,21 +56,20 @@ pub fn find(line: &[u8], at: usize, x: u8) -> usize
     i
 }
 
-// Whether two lists of octets are the same.
+// Whether two lists of octets are the same. It looks at all of them: no branch in the loop.
 pub fn same(a: &[u8], b: &[u8]) -> bool
     ensures { λ r. ⌜ r ≡ same (now (a .entry)) (now (b .entry)) ⌝ }
 {
     if a.len() != b.len() {
         return false;
     }
+    let mut ok = true;
     let mut i: usize = 0;
     while i < a.len() {
-        if a[i] != b[i] {
-            return false;
-        }
+        ok = ok & (a[i] == b[i]);
         i += 1;
     }
-    true
+    ok
 }
 
 // Whether octets are NUL alone.

@@ -1,18 +1,15 @@
 -- The table of mechanisms, record by record. Assumes nothing.
-use mathlib.Core.Path.{_≡_, sym}
+use mathlib.Core.Path.{_≡_}
 use mathlib.Core.Bool.{Bool, true, false, not, _&&_}
 use mathlib.Core.List.{List, [], _∷_}
 use Prim.Native.Nat.{ℕ, _+_, _<_, _≤_}
 use native.Mathlib.Numerals.{add-one}
 use native.Mathlib.Omega.{arith}
 use borrow.Author.Tests.{le-leb}
-use lib.ListN.{length, getD, drop, replicate, length-take, drop-of-length-le}
-use lib.Seq.{drop-cons, getD-take, take-length, slice}
-use Rattle.octets.specs.Lists.{every, same, before}
-use Rattle.lines.specs.Mechanism.{mechanism, padded}
+use lib.ListN.{length, getD, drop, length-take, drop-of-length-le}
+use lib.Seq.{drop-cons, getD-take}
+use Rattle.octets.specs.Lists.{every, same}
 use Rattle.session.specs.declared.view.Offer.the-variants.{Absent, Present}
-use Rattle.octets.proofs.Padding.{blank-rest}
-use Rattle.session.proofs.Steps.{name-part}
 use Rattle.server.specs.declared.Mechanism.{Mechanism}
 use Rattle.server.specs.declared.Mechanisms.{Mechanisms}
 use Rattle.server.specs.Mechanisms.{listed, offered}
@@ -90,12 +87,3 @@ module _ (t : Mechanisms) (i : ℕ) where
   pub names-done : length (listed t) ≤ i → true ≡ apart sameName (drop i (listed t))
   unfolding apart
   names-done h = rw (none-left h)
-
--- a name in twenty octets: what stands before the first NUL, and the rest
-pub name-within : (m : Mechanism) (k : ℕ) → length (m .name) ≡ 20 → k ≡ 0 + length (before 0 (drop 0 (m .name)))
-    → (mechanism (slice 0 k (m .name)) && same (slice k 20 (m .name)) (replicate (length (slice k 20 (m .name))) 0)) ≡ mechanismWithin m
-unfolding mechanismWithin padded
-name-within m k e h =
-    let z : k ≡ length (before 0 (m .name)) = omega arith in
-    let u : slice k 20 (m .name) ≡ drop (length (before 0 (m .name))) (m .name) = rw (z, sym e, take-length (m .name)) in
-    rw (name-part (m .name) k h, u, blank-rest (m .name), e)

@@ -9,7 +9,7 @@ ghost use Rattle.server.specs.Mechanisms.{listed, offered};
 ghost use Rattle.server.specs.WellFormed.{apart, sameName, mechanismWithin, mechanismsWithin};
 use crate::Mechanism;
 use crate::Mechanisms;
-use lines::mechanism::is_mechanism;
+use lines::mechanism::is_padded_name;
 use lines::mechanism::name_of;
 use lines::mechanism::same_name;
 use session::view::Offer;
@@ -39,8 +39,7 @@ impl Mechanism {
         ensures { λ r. ⌜ r ≡ mechanismWithin self ⌝ }
     {
         let name = self.name;
-        let end = octets::find(&name, 0, 0);
-        is_mechanism(octets::part(&name, 0, end)) & octets::is_blank(octets::part(&name, end, 20))
+        is_padded_name(name)
     }
 }
 

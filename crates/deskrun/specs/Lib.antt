@@ -1,0 +1,3 @@
+-- The definitions that the promises of deskrun cite.
+pub mod Row
+pub mod Transcript
