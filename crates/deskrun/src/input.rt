@@ -5,11 +5,8 @@ use crate::transcript::row;
 use crate::transcript::with_room;
 use script::command::read;
 use script::kept::Kept;
-
-// What a call asks of the buffers that are lent to it; a name's may be shorter.
-const REPLY: usize = 12288;
-
-const ANSWER: usize = 9213;
+use umbrelnic::ANSWER_OCTETS;
+use umbrelnic::REPLY_OCTETS;
 
 // The line that is read, and the index after the transcript in out.
 struct State {
@@ -74,8 +71,8 @@ impl State {
 
 // Runs a line, puts its transcript into out from an index on and gives the index after it.
 fn run_line(image: &mut [u8], line: &[u8], kept: Kept, out: &mut [u8], at: usize) -> usize {
-    let mut reply = [0u8; REPLY];
-    let mut answer = [0u8; ANSWER];
+    let mut reply = [0u8; REPLY_OCTETS];
+    let mut answer = [0u8; ANSWER_OCTETS];
     let rest = kept.rest;
     let text = octets::part(line, 0, kept.length);
     let printed = call::run(image, text, read(text, rest), &mut reply, &mut answer);

@@ -12,7 +12,6 @@ use sizes::CONNECTION;
 use sizes::HEADER;
 use sizes::MECHANISM;
 use sizes::MOST_CONNECTIONS;
-use sizes::MOST_MECHANISMS;
 use sizes::SERVER_MECHANISMS;
 use sizes::SERVER_SLOTS;
 use sizes::SLOT;
@@ -23,6 +22,8 @@ mod records;
 mod sizes;
 mod slots;
 mod unique;
+
+pub use sizes::MOST_MECHANISMS;
 
 // How many octets an image has.
 pub const OCTETS: usize = SERVER_SLOTS + MOST_CONNECTIONS * SLOT;

@@ -1,7 +1,8 @@
 // How many octets each part of an image takes, and where the larger parts stand in it, as in specs/Sizes.antt.
 pub(crate) const MOST_CONNECTIONS: usize = 64;
 
-pub(crate) const MOST_MECHANISMS: usize = 8;
+// A table has so many records.
+pub const MOST_MECHANISMS: usize = 8;
 
 pub(crate) const NAME: usize = 64;
 

@@ -6,13 +6,11 @@ ghost use Rattle.calls.specs.Numbers.{refusal};
 ghost use Rattle.calls.specs.Step.{resultIn, imageIn};
 ghost use Rattle.image.specs.InPlace.{isTaken, readServer};
 ghost use Rattle.umbrelnic.specs.Private.{addsTo};
+use image::MOST_MECHANISMS;
 use lines::mechanism::is_mechanism;
 use profile::numbers::Refusal;
 use server::Mechanism;
 use session::view::Offer;
-
-// A server has at most so many mechanisms.
-const MOST_MECHANISMS: usize = 8;
 
 fn is_present(offer: Offer) -> bool
     ensures { λ r. ⌜ r ≡ isPresent offer ⌝ }

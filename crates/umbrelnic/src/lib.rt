@@ -21,6 +21,11 @@ mod opening;
 mod stepping;
 mod telling;
 
+// How many octets the reply buffer and the answer buffer have at least. (An image has image::OCTETS, a name buffer Session::LONGEST_NAME.)
+pub const REPLY_OCTETS: usize = 12288;
+
+pub const ANSWER_OCTETS: usize = 9213;
+
 // What open gives.
 #[repr(C)]
 pub struct Opened {

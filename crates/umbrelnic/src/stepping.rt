@@ -21,7 +21,9 @@ ghost use Rattle.profile.specs.declared.numbers.ListedVerdict.the-variants.{Kno
 ghost use Rattle.calls.specs.Call as Call;
 ghost use Rattle.calls.specs.Call.{isShort};
 ghost use Rattle.umbrelnic.specs.Private.{ended, keptIn, issuedIn, handedIn, LineDone, Judged};
+use crate::ANSWER_OCTETS;
 use crate::LineAnswer;
+use crate::REPLY_OCTETS;
 use crate::Said;
 use crate::given::answered;
 use crate::given::not_said;
@@ -40,15 +42,11 @@ use session::answer::Numbers;
 use session::view::Offer;
 use session::view::View;
 
-// How long the buffers must be that line and verdict take.
-const REPLY: usize = 12288;
-
-const ANSWER: usize = 9213;
-
+// Whether a buffer is shorter than line and verdict ask for.
 pub(crate) fn are_short(reply: &[u8], answer: &[u8]) -> bool
     ensures { λ r. ⌜ r ≡ not (leb replyBuffer (length (now (reply .entry))) && leb answerBuffer (length (now (answer .entry)))) ⌝ }
 {
-    !((REPLY <= reply.len()) & (ANSWER <= answer.len()))
+    !((REPLY_OCTETS <= reply.len()) & (ANSWER_OCTETS <= answer.len()))
 }
 
 // ---- the image
