@@ -5,6 +5,11 @@ set -u
 cd "$(dirname "$0")/.." || exit 1
 program=${1:-target/bin/deskrun}
 scripts=crates/deskrun/scripts
+if [ ! -x "$program" ]; then
+    echo "FAIL deskrun: there is no $program; rt check deskrun makes target/bin/deskrun"
+    echo '0 passed, 1 failed'
+    exit 1
+fi
 room=$(mktemp -d) || exit 1
 trap 'rm -rf "$room"' EXIT
 passed=0

@@ -1,6 +1,6 @@
 #!/bin/sh
 # Tests the calls from C.
-#   host/run.sh          on the library target/staticlib/libumbrelnic.a, which is made if it is not there, and beside the model
+#   host/run.sh          on the library target/staticlib/libumbrelnic.a, which is made if it is not there or older than a source, and beside the model
 #   host/run.sh model    on the model alone, with no library; what compares the two then compares the model with itself
 # CALLS (1000000) is how long the random comparison is, SEED (1) where it starts.
 # Prints a line for each test, and as its last line 'N passed, M failed'. Needs gcc and g++.
@@ -60,8 +60,12 @@ need_compilers() {
     fi
 }
 
+# the library, made anew where a source is newer
 need_library() {
-    if [ -n "$library" ] && [ ! -f "$library" ] && ! rt staticlib umbrelnic >"$out/staticlib.log" 2>&1; then
+    if [ -z "$library" ] || { [ -f "$library" ] && [ -z "$(find crates -name '*.rt' -newer "$library" | head -n 1)" ]; }; then
+        return
+    fi
+    if ! rt staticlib umbrelnic >"$out/staticlib.log" 2>&1; then
         tail -n 20 "$out/staticlib.log"
         failed "library: rt staticlib umbrelnic failed; $out/staticlib.log has it whole"
         finish

@@ -5,9 +5,8 @@ use mathlib.Core.List.{List, [], _∷_}
 use mathlib.Core.Option.{Option, none, some, Option·none-ne-some}
 use Prim.Native.Nat.{ℕ, _+_}
 use native.Mathlib.Omega.{arith}
-use lib.Dec.{eqb, leb, ltb}
-use lib.ListN.{length}
-use Rattle.octets.specs.Answers.{written}
+use lib.Dec.{eqb, ltb}
+use Rattle.octets.proofs.Answers.{nothing-written}
 use Rattle.profile.specs.declared.numbers.Refusal.{Refusal}
 use Rattle.profile.specs.declared.numbers.Refusal.the-variants as Refusals
 use Rattle.profile.specs.declared.numbers.ListedVerdict.{ListedVerdict}
@@ -71,14 +70,6 @@ plain i c = go (isShort c)
     go : (b : Bool) → Plain (cond b (refuses Refusals.ShortBuffer) (onLent (lent i (request c)) (request c)))
     go true = tt
     go false = plain-lent (lent i (request c)) (request c)
-
--- no octets leave a buffer as it is
-nothing-written : (b : List ℕ) → written b 0 [] ≡ b
-nothing-written b = go (leb (0 + 0) (length b))
-  where
-    go : (t : Bool) → cond t b b ≡ b
-    go true = refl
-    go false = refl
 
 unaltered : (i : Image) (r : Request) (k : Refusal) (o : Outcome) → Plain o → resultIn o ≡ refused k → Unaltered i (outOf i r o)
 unaltered i r k (refuses j) p e = record { image = refl; reply = nothing-written; answer = nothing-written; name = nothing-written }

@@ -1,7 +1,7 @@
 -- What a write leaves; what an answer of measure says, and with it what decode and encode have to answer. Assumes nothing.
 use mathlib.Core.Path.{_≡_, refl, sym, _∙_, ap}
 use mathlib.Core.Bool.{Bool, true, false, cond}
-use mathlib.Core.List.{List, _∷_, _++_}
+use mathlib.Core.List.{List, [], _∷_, _++_}
 use Prim.Native.Nat.{ℕ, _+_, _<_, _≤_}
 use native.Mathlib.Nat.{zero-add}
 use native.Mathlib.Omega.{arith}
@@ -13,11 +13,16 @@ use Rattle.octets.specs.Answers.{written, measured, decoded, decodedInto
 use Rattle.octets.specs.declared.Measured.{Measured}
 use Rattle.octets.specs.declared.Decoded.{Decoded}
 use Rattle.octets.specs.declared.Encoded.{Encoded}
+use Rattle.octets.proofs.Cases.{picked}
 use Rattle.octets.proofs.Lists.{sets-append}
 
 -- what a write changes: the octets from `at` on, as many as are written, and nothing else
 pub written-is : (o : List ℕ) (at : ℕ) (l : List ℕ) → at + length l ≤ length o → written o at l ≡ take at o ++ l ++ drop (at + length l) o
 written-is o at l h = rw (le-leb _ _ h) (sets-eq l o at h)
+
+-- no octets leave a buffer as it is
+pub nothing-written : (b : List ℕ) → written b 0 [] ≡ b
+nothing-written b = picked (λ (o : List ℕ). o ≡ b) (leb (0 + 0) (length b)) b b refl refl
 
 pub length-written : (o : List ℕ) (at : ℕ) (l : List ℕ) → length (written o at l) ≡ length o
 length-written o at l = go (leb (at + length l) (length o))

@@ -7,7 +7,7 @@ use borrow.Author.Tests.{lt-ltb, le-ltb}
 use lib.ListN.{length}
 use Rattle.lines.specs.Mechanism.{mechanism, padded}
 use Rattle.profile.specs.declared.numbers.Refusal.the-variants as Refusals
-use Rattle.server.specs.Add.{withMechanism, onAdd}
+use Rattle.server.specs.Add.{keptAs, withMechanism, addsTo, onAdd}
 use Rattle.server.specs.Limits.{mostMechanisms}
 use Rattle.server.specs.Mechanisms.{listed, offered, isPresent}
 use Rattle.server.specs.Outcome.{refuses, gives, done, isYesOrNo, isYes}
@@ -20,7 +20,6 @@ use Rattle.image.proofs.Laws.{taken-own, own-size, header-read, mechanisms-read
 use Rattle.calls.specs.Call as Call
 use Rattle.calls.specs.Call.{request}
 use Rattle.calls.specs.Step.{outOf, step}
-use Rattle.umbrelnic.specs.Private.{addsTo}
 use Rattle.umbrelnic.proofs.Exits.{refusedOut, step-on}
 
 module _ (l : Image) (t : isTaken l ≡ true) (n : List ℕ) (f p : Bool) where
@@ -49,7 +48,7 @@ module _ (l : Image) (t : isTaken l ≡ true) (n : List ℕ) (f p : Bool) where
         add-full h = rw (sealed-own false e, m, present-own false x, ← count-own, le-ltb (mechanismsRead l .count) mostMechanisms h)
 
         module _ (h : mechanismsRead l .count < mostMechanisms) where
-          pub add-gives : addsTo (readServer l) n f p ≡ gives done (withMechanism (readServer l) (record { name = padded n; «client_first» = f; «needs_protection» = p }))
+          pub add-gives : addsTo (readServer l) n f p ≡ gives done (withMechanism (readServer l) (keptAs n f p))
           add-gives = rw (sealed-own false e, m, present-own false x, ← count-own, lt-ltb (mechanismsRead l .count) mostMechanisms h)
 
           pub add-leaves : (k : Mechanism) → mechanismWritten l (mechanismsRead l .count) k ≡ imageOf (withMechanism (readServer l) k)

@@ -3,10 +3,10 @@ use mathlib.Core.Path.{_≡_, refl, sym, ap, _∙_}
 use mathlib.Core.Bool.{Bool, true, false, cond}
 use mathlib.Core.List.{List, []}
 use mathlib.Core.Option.{Option, none, some}
-use Prim.Native.Nat.{ℕ, _+_}
+use Prim.Native.Nat.{ℕ}
 use native.Mathlib.Omega.{arith}
 use borrow.Author.Tests.{eqb-true, eq-eqb}
-use lib.Dec.{eqb, leb}
+use lib.Dec.{eqb}
 use lib.ListN.{length}
 use Rattle.octets.specs.Answers.{written}
 use Rattle.profile.specs.declared.numbers.Refusal.{Refusal}
@@ -34,14 +34,6 @@ use Rattle.calls.specs.Call.{Call, request, isShort}
 use Rattle.calls.specs.Step.{Out, lent, outOf, outcome, step}
 use Rattle.umbrelnic.specs.declared.finding.Place.the-variants as Places
 use Rattle.umbrelnic.specs.Private.{placeOf, placed, ended}
-
--- no octets leave a buffer as it is
-pub nothing-written : (b : List ℕ) → written b 0 [] ≡ b
-nothing-written b = go (leb (0 + 0) (length b))
-  where
-    go : (t : Bool) → cond t b b ≡ b
-    go true = refl
-    go false = refl
 
 -- what a refused call comes to
 abbrev pub refusedOut : Image → Refusal → Out

@@ -7,6 +7,7 @@ use Prim.Native.Nat.{ℕ, _+_, _≤_}
 use native.Mathlib.Omega.{arith}
 use borrow.Author.Tests.{le-leb}
 use lib.ListN.{length}
+use Rattle.octets.proofs.Answers.{nothing-written}
 use Rattle.octets.specs.Answers.{written, encoded}
 use Rattle.octets.specs.declared.Encoded.the-variants.{End, Short}
 use Rattle.profile.specs.declared.Profile.{Profile}
@@ -33,7 +34,6 @@ use Rattle.calls.specs.Buffers.{heardIn}
 use Rattle.calls.specs.Numbers.{answerNumbers}
 use Rattle.calls.specs.Step.{resultIn, imageIn, isQueried, relayedIn}
 use Rattle.umbrelnic.specs.Private.{nextOf, keptIn, issued, issuedIn, handedIn}
-use Rattle.umbrelnic.proofs.Exits.{nothing-written}
 
 -- ---- what the client hears
 

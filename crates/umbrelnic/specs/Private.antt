@@ -4,27 +4,21 @@ use mathlib.Core.Bool.{Bool, cond}
 use mathlib.Core.List.{List}
 use mathlib.Core.Option.{some}
 use Prim.Native.Nat.{ℕ, _+_}
-use lib.Dec.{ltb}
-use lib.ListN.{length}
 use Rattle.base64.specs.Base64 as Base64
 use Rattle.xtext.specs.Xtext as Xtext
-use Rattle.lines.specs.Mechanism.{mechanism, padded}
 use Rattle.octets.specs.Answers.{written}
 use Rattle.profile.specs.declared.numbers.ListedVerdict.{ListedVerdict}
 use Rattle.profile.specs.declared.numbers.Refusal.{Refusal}
-use Rattle.profile.specs.declared.numbers.Refusal.the-variants.{NotTaken, BadName, NamePresent, TableFull, Sealed}
+use Rattle.profile.specs.declared.numbers.Refusal.the-variants.{NotTaken}
 use Rattle.session.specs.MailEnded.{afterMail}
 use Rattle.session.specs.Octets.{responseText, relayText}
 use Rattle.session.specs.Standing.{isRefused}
 use Rattle.session.specs.declared.Stepped.{Stepped}
 use Rattle.session.specs.declared.answer.Answer.{Answer}
 use Rattle.session.specs.declared.view.View.{View}
-use Rattle.server.specs.Add.{withMechanism}
-use Rattle.server.specs.Limits.{mostMechanisms}
 use Rattle.server.specs.Line.{isQuery, relaysAddress}
-use Rattle.server.specs.Mechanisms.{offered, isPresent}
-use Rattle.server.specs.Outcome.{Outcome, refuses, gives, done}
-use Rattle.server.specs.Server.{Slot, Server}
+use Rattle.server.specs.Outcome.{Outcome}
+use Rattle.server.specs.Server.{Slot}
 use Rattle.server.specs.Slots.{isWaiting, found}
 use Rattle.server.specs.Verdict.{verdictFound}
 use Rattle.server.specs.declared.Connection.{Connection}
@@ -49,17 +43,6 @@ placeOf k Founds.Nothing = Places.Refused k
 
 unfoldable pub placed : Refusal → (Slot → Bool) → Image → Place
 placed k p l = cond (isTaken l) (placeOf k (slotFound p l)) (Places.Refused NotTaken)
-
--- add, once both yes-or-no are 0 or 1
-abbrev pub addsTo : Server → List ℕ → Bool → Bool → Outcome
-addsTo s n f p =
-    cond (s .header .sealed) (refuses Sealed)
-    (cond (mechanism n)
-    (cond (isPresent (offered (s .mechanisms) (padded n))) (refuses NamePresent)
-    (cond (ltb (length (s .mechanisms)) mostMechanisms)
-    (gives done (withMechanism s (record { name = padded n; «client_first» = f; «needs_protection» = p })))
-    (refuses TableFull)))
-    (refuses BadName))
 
 -- a connection after the end of a transaction, and after a step
 abbrev pub ended : Connection → Connection

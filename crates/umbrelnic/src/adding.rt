@@ -1,11 +1,11 @@
 // A mechanism added to an image that is taken.
 ghost use mathlib.Core.Path.{_≡_};
 ghost use mathlib.Core.Bool.{true};
+ghost use Rattle.server.specs.Add.{addsTo};
 ghost use Rattle.server.specs.Mechanisms.{isPresent};
 ghost use Rattle.calls.specs.Numbers.{refusal};
 ghost use Rattle.calls.specs.Step.{resultIn, imageIn};
 ghost use Rattle.image.specs.InPlace.{isTaken, readServer};
-ghost use Rattle.umbrelnic.specs.Private.{addsTo};
 use image::MOST_MECHANISMS;
 use lines::mechanism::is_mechanism;
 use profile::numbers::Refusal;

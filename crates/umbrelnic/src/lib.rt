@@ -59,6 +59,7 @@ pub struct Borne {
     pub length: u64,
 }
 
+// How long an image is.
 #[no_mangle]
 pub extern "C" fn umbrelnic_image_octets() -> u64
     ensures { λ r. ⌜ r ≡ imageSize ⌝ }
@@ -66,6 +67,7 @@ pub extern "C" fn umbrelnic_image_octets() -> u64
     image::OCTETS as u64
 }
 
+// "Make a desk from a first connection number and a first ticket". Refused: 20.
 #[no_mangle]
 pub extern "C" fn umbrelnic_make(image: &mut [u8], connection: u64, ticket: u64) -> u64
     ensures { λ r. ⌜ (let did = step (now (image .entry)) (Call.make connection ticket) in (r ≡ refusal (did .result)) × (now (image .exit) ≡ did .image)) ⌝ }
@@ -77,6 +79,7 @@ pub extern "C" fn umbrelnic_make(image: &mut [u8], connection: u64, ticket: u64)
     0
 }
 
+// "Add a mechanism: name, whether the client speaks first, whether it needs a protected connection." Refused: 20, 5, 11, 8, 9, 10.
 #[no_mangle]
 pub extern "C" fn umbrelnic_add(
     image: &mut [u8],
@@ -95,6 +98,7 @@ pub extern "C" fn umbrelnic_add(
     adding::add(image, name, client_first == 1, needs_protection == 1)
 }
 
+// "Open: profile 0 SMTP or 1 POP3, protected or not; gives the connection's number." Refused: 20, 5, 6, 7.
 #[no_mangle]
 pub extern "C" fn umbrelnic_open(image: &mut [u8], profile: u64, protected: u64) -> Opened
     ensures { λ r. ⌜ (let did = step (now (image .entry)) (Call.opens profile protected) in (r ≡ openedOf (did .result)) × (now (image .exit) ≡ did .image)) ⌝ }
@@ -115,6 +119,7 @@ pub extern "C" fn umbrelnic_open(image: &mut [u8], profile: u64, protected: u64)
     }
 }
 
+// "Line, for a connection, gives one of: passed on; a question (..); a reply." Refused: 1, 20, 2, 3, 7.
 #[no_mangle]
 pub extern "C" fn umbrelnic_line(
     image: &mut [u8],
@@ -135,6 +140,7 @@ pub extern "C" fn umbrelnic_line(
     }
 }
 
+// "Verdict, for a ticket, gives a reply." Refused: 1, 20, 4, 5.
 #[no_mangle]
 pub extern "C" fn umbrelnic_verdict(
     image: &mut [u8],
@@ -156,6 +162,7 @@ pub extern "C" fn umbrelnic_verdict(
     }
 }
 
+// "Mail ended, for a connection: clears the transaction". Refused: 20, 2.
 #[no_mangle]
 pub extern "C" fn umbrelnic_mail_ended(image: &mut [u8], connection: u64) -> u64
     ensures { λ r. ⌜ (let did = step (now (image .entry)) (Call.mailEnded connection) in (r ≡ refusal (did .result)) × (now (image .exit) ≡ did .image)) ⌝ }
@@ -170,6 +177,7 @@ pub extern "C" fn umbrelnic_mail_ended(image: &mut [u8], connection: u64) -> u64
     }
 }
 
+// "Who: signed in or not, and the name." Refused: 1, 20, 2.
 #[no_mangle]
 pub extern "C" fn umbrelnic_who(image: &[u8], connection: u64, name: &mut [u8]) -> Borne
     ensures { λ r. ⌜ (let did = step (now (image .entry)) (Call.who connection (now (name .entry))) in (r ≡ borneOf (did .result)) × (now (image .entry) ≡ did .image) × (now (name .exit) ≡ nameAfter did (now (name .entry)))) ⌝ }
@@ -184,6 +192,7 @@ pub extern "C" fn umbrelnic_who(image: &[u8], connection: u64, name: &mut [u8]) 
     }
 }
 
+// "Close: clears the place and voids its ticket." Refused: 20, 2.
 #[no_mangle]
 pub extern "C" fn umbrelnic_close(image: &mut [u8], connection: u64) -> u64
     ensures { λ r. ⌜ (let did = step (now (image .entry)) (Call.close connection) in (r ≡ refusal (did .result)) × (now (image .exit) ≡ did .image)) ⌝ }

@@ -1,10 +1,11 @@
 use mathlib.Core.Path.{refl, sym, _∙_}
 use borrow.Author.Needs.{needs}
+use Rattle.octets.proofs.Answers.{nothing-written}
 use Rattle.profile.specs.declared.numbers.Refusal.the-variants.{NoConnection}
 use Rattle.server.specs.Slots.{isNumbered, holding}
 use Rattle.calls.specs.Call as Call
 use Rattle.umbrelnic.proofs.Lines.{line-refused}
-use Rattle.umbrelnic.proofs.Exits.{nothing-written, step-short, placed-at}
+use Rattle.umbrelnic.proofs.Exits.{step-short, placed-at}
 use Rattle.umbrelnic.proofs.umbrelnic_line.Statement.{statement}
 use Rattle.umbrelnic.proofs.umbrelnic_line.Tie as tie
 

@@ -1,6 +1,7 @@
 use mathlib.Core.Path.{refl, sym, _∙_}
 use lib.ListN.{length}
 use borrow.Author.Needs.{needs}
+use Rattle.octets.proofs.Answers.{nothing-written}
 use Rattle.profile.specs.declared.numbers.Refusal.the-variants.{NoTicket}
 use Rattle.profile.specs.Numbers.{verdictOf}
 use Rattle.session.specs.Limits.{replyBuffer, answerBuffer}
@@ -8,7 +9,7 @@ use Rattle.server.specs.Slots.{isWaiting, holding}
 use Rattle.calls.specs.Call as Call
 use Rattle.umbrelnic.proofs.Verdicts.{nothing-handed, verdict-on, verdict-refused}
 use Rattle.umbrelnic.proofs.Lines.{room}
-use Rattle.umbrelnic.proofs.Exits.{nothing-written, step-short, placed-at}
+use Rattle.umbrelnic.proofs.Exits.{step-short, placed-at}
 use Rattle.umbrelnic.proofs.umbrelnic_verdict.Statement.{statement}
 use Rattle.umbrelnic.proofs.umbrelnic_verdict.Tie as tie
 

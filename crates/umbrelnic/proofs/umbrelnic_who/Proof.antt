@@ -3,9 +3,10 @@ use mathlib.Core.Path.{refl, sym, ap, _∙_}
 use lib.ListN.{length}
 use borrow.Author.Tests.{le-leb, lt-leb}
 use borrow.Author.Needs.{needs}
+use Rattle.octets.proofs.Answers.{nothing-written}
 use Rattle.session.specs.Limits.{longestName}
 use Rattle.calls.specs.Call as Call
-use Rattle.umbrelnic.proofs.Exits.{nothing-written, step-short, who-refused, who-done, session-within}
+use Rattle.umbrelnic.proofs.Exits.{step-short, who-refused, who-done, session-within}
 use Rattle.umbrelnic.proofs.umbrelnic_who.Statement.{statement}
 use Rattle.umbrelnic.proofs.umbrelnic_who.Tie as tie
 

@@ -1,7 +1,7 @@
 use mathlib.Core.Path.{sym, _∙_}
 use borrow.Author.Needs.{needs}
+use Rattle.octets.proofs.Answers.{nothing-written}
 use Rattle.umbrelnic.proofs.Verdicts.{verdict-unlisted}
-use Rattle.umbrelnic.proofs.Exits.{nothing-written}
 use Rattle.umbrelnic.proofs.stepping.judge.Statement.{statement}
 use Rattle.umbrelnic.proofs.stepping.judge.Tie as tie
 

@@ -3,10 +3,10 @@ use Prim.Native.Nat.{_≤_}
 use native.Mathlib.Omega.{arith}
 use lib.ListN.{length}
 use borrow.Author.Needs.{needs}
+use Rattle.octets.proofs.Answers.{nothing-written}
 use Rattle.session.proofs.Laws.{name-fits}
 use Rattle.session.specs.Session.{nameOf}
 use Rattle.umbrelnic.proofs.Settles.{said-end, said-short}
-use Rattle.umbrelnic.proofs.Exits.{nothing-written}
 use Rattle.umbrelnic.proofs.telling.tell_of.Statement.{statement}
 use Rattle.umbrelnic.proofs.telling.tell_of.Tie as tie
 
