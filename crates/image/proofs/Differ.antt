@@ -15,8 +15,9 @@ use lib.Seq.{drop-cons, getD-set-same, getD-set-other}
 use Rattle.octets.specs.Lists.{every}
 use Rattle.octets.proofs.Cases.{both}
 use Rattle.server.specs.WellFormed.{has, clashes, apart, differ}
+use Rattle.image.specs.Private.{marked, Passed}
 
-or-true : (p : Bool) → (p || true) ≡ true
+pub or-true : (p : Bool) → (p || true) ≡ true
 or-true true = refl
 or-true false = refl
 
@@ -33,11 +34,6 @@ every-true [] = refl
 every-true (x ∷ xs) = every-true xs
 
 -- ---- the table
-
--- a key's mark is set
-abbrev pub marked : List Bool → Option ℕ → Bool
-marked n none = true
-marked n (some m) = getD n (m % 256) false
 
 -- the mark of m set, where b says so
 abbrev pub marking : List Bool → Bool → ℕ → List Bool
@@ -69,12 +65,6 @@ unmarked n m f (some u) e = go (eqb u m) refl
 
 -- ---- the loop: the elements from i on are told apart, and their marks are set
 
-pub record Passed {A : Type 0} (key : A → Option ℕ) (xs : List A) (i : ℕ) (ok : Bool) (n : List Bool) : Type 0 where
-  pub bound : i ≤ length xs
-  pub marks : length n ≡ 256
-  pub told : ok ≡ differ key (drop i xs)
-  pub seen : every (λ y. marked n (key y)) (drop i xs) ≡ true
-
 module _ {A : Type 0} (key : A → Option ℕ) (xs : List A) where
   pub passed-start : (i : ℕ) (n : List Bool) → length xs ≡ i → length n ≡ 256 → Passed key xs i true n
   unfolding every apart
@@ -86,6 +76,18 @@ module _ {A : Type 0} (key : A → Option ℕ) (xs : List A) where
   passed-end i ok n h z =
       let e : i ≡ 0 = omega arith in
       rw e at (h .told)
+
+  -- an element without a key
+  pub passed-skip : (i : ℕ) (ok : Bool) (n : List Bool) → Passed key xs i ok n → (j : ℕ) → i ≡ j + 1 → (x : A) → getD xs j x ≡ x → key x ≡ none → Passed key xs j ok n
+  unfolding every apart
+  passed-skip i ok n h j e x at is =
+      let front : drop j xs ≡ x ∷ drop (j + 1) xs = drop-cons xs j x (omega (arith, h .bound)) ∙ rw (at, add-one j) in
+      record {
+        bound = omega (arith, h .bound);
+        marks = h .marks;
+        told = rw (front, is, every-true (drop (j + 1) xs)) (rw e at (h .told));
+        seen = rw (front, is) (rw e at (h .seen));
+      }
 
   module _ (i : ℕ) (ok : Bool) (n : List Bool) (h : Passed key xs i ok n) (j : ℕ) (e : i ≡ j + 1) (x : A) (at : getD xs j x ≡ x) (b : Bool) (m : ℕ)
       (is : key x ≡ cond b (some m) none) where

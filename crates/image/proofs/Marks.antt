@@ -7,7 +7,7 @@ use Prim.Native.Nat.{ℕ, _+_, _%_, _≤_}
 use native.Mathlib.Omega.{arith}
 use lib.Dec.{eqb}
 use borrow.Author.Tests.{eqb-true}
-use lib.ListN.{length, getD, drop}
+use lib.ListN.{length, getD, set, drop}
 use Rattle.octets.specs.Lists.{every}
 use Rattle.codec.specs.Codec.{isOne, getNumber}
 use Rattle.codec.proofs.Arrays.{getArray-length, array-place}
@@ -22,10 +22,10 @@ use Rattle.server.specs.declared.Connection.{Connection}
 use Rattle.image.specs.Sizes.{connectionSession, sessionPhase, slotSize, serverSlots}
 use Rattle.image.specs.Layout.{phaseAt, connection, slot}
 use Rattle.image.specs.InPlace.{slotOffset}
-use Rattle.image.specs.Private.{slotsAt}
+use Rattle.image.specs.Private.{slotsAt, Passed}
 use Rattle.image.proofs.Offsets.{phase-get, connection-get, slot-get, slot-size}
 use Rattle.image.proofs.Places.{phase-place}
-use Rattle.image.proofs.Differ.{Passed, marking, passed-start, passed-end, passed-turn}
+use Rattle.image.proofs.Differ.{marking, or-true, passed-start, passed-end, passed-skip, passed-turn}
 
 -- ---- the two keys, by the tests of a slot
 
@@ -93,27 +93,35 @@ module _ (l : List ℕ) where
     here : getD (slotsAt l) j (slot .get l (slotOffset j)) ≡ slot .get l (slotOffset j)
     here = array-place slot slotSize slot-size mostConnections l serverSlots j (slot .get l (slotOffset j)) (omega arith)
 
-    pub numbers-turn : Passed numberOf (slotsAt l) i ok n → (held : Bool) (number : ℕ) (clear : Bool)
-        → held ≡ isOne (getD l (slotOffset j) 0) → number ≡ getNumber 8 l (slotOffset j + 1)
-        → clear ≡ cond (held && getD n (number % 256) false) (every (λ y. not (holding (isNumbered number) y)) (drop (j + 1) (slotsAt l))) true
-        → Passed numberOf (slotsAt l) j (ok && clear) (marking n held number)
-    numbers-turn h held number clear eh en ec =
-        let is : numberOf (slot .get l (slotOffset j)) ≡ cond held (some number) none = rw (eh, en) (number-key l (slotOffset j)) in
+    -- a slot that has no number, or no ticket
+    pub numbers-skip : Passed numberOf (slotsAt l) i ok n → isOne (getD l (slotOffset j) 0) ≡ false → Passed numberOf (slotsAt l) j ok n
+    numbers-skip h f = passed-skip numberOf (slotsAt l) i ok n h j e (slot .get l (slotOffset j)) here (number-key l (slotOffset j) ∙ rw f)
+
+    pub tickets-skip : Passed ticketOf (slotsAt l) i ok n → (isOne (getD l (slotOffset j) 0) && eqb (tag l (slotOffset j)) 3) ≡ false → Passed ticketOf (slotsAt l) j ok n
+    tickets-skip h f = passed-skip ticketOf (slotsAt l) i ok n h j e (slot .get l (slotOffset j)) here (ticket-key l (slotOffset j) ∙ rw f)
+
+    -- one that has
+    pub numbers-turn : Passed numberOf (slotsAt l) i ok n → isOne (getD l (slotOffset j) 0) ≡ true → (number : ℕ) (clear : Bool)
+        → number ≡ getNumber 8 l (slotOffset j + 1)
+        → clear ≡ cond (getD n (number % 256) false) (every (λ y. not (holding (isNumbered number) y)) (drop (j + 1) (slotsAt l))) true
+        → Passed numberOf (slotsAt l) j (ok && clear) (set n (number % 256) true)
+    numbers-turn h t number clear en ec =
+        let is : numberOf (slot .get l (slotOffset j)) ≡ some number = rw en (number-key l (slotOffset j) ∙ rw t) in
         let f : every (λ y. not (has (numberOf y) number)) (drop (j + 1) (slotsAt l)) ≡ every (λ y. not (holding (isNumbered number) y)) (drop (j + 1) (slotsAt l)) =
         λ k. every (λ y. not (has-number number y k)) (drop (j + 1) (slotsAt l)) in
-        rw (ec, ← f) (passed-turn numberOf (slotsAt l) i ok n h j e (slot .get l (slotOffset j)) here held number is)
+        let z : marking n true number ≡ set n (number % 256) true = ap (λ (b : Bool). set n (number % 256) b) (or-true (getD n (number % 256) false)) in
+        rw (ec, ← f, ← z) (passed-turn numberOf (slotsAt l) i ok n h j e (slot .get l (slotOffset j)) here true number is)
 
-    pub tickets-turn : Passed ticketOf (slotsAt l) i ok n → (held : Bool) (t : ℕ) (clear : Bool)
-        → held ≡ isOne (getD l (slotOffset j) 0) → t ≡ ticket l (slotOffset j)
-        → clear ≡ cond ((held && eqb (tag l (slotOffset j)) 3) && getD n (t % 256) false)
-        (every (λ y. not (holding (isWaiting t) y)) (drop (j + 1) (slotsAt l))) true
-        → Passed ticketOf (slotsAt l) j (ok && clear) (marking n (held && eqb (tag l (slotOffset j)) 3) t)
-    tickets-turn h held t clear eh en ec =
-        let waits : Bool = held && eqb (tag l (slotOffset j)) 3 in
-        let is : ticketOf (slot .get l (slotOffset j)) ≡ cond waits (some t) none = rw (eh, en) (ticket-key l (slotOffset j)) in
+    pub tickets-turn : Passed ticketOf (slotsAt l) i ok n → (isOne (getD l (slotOffset j) 0) && eqb (tag l (slotOffset j)) 3) ≡ true → (t : ℕ) (clear : Bool)
+        → t ≡ ticket l (slotOffset j)
+        → clear ≡ cond (getD n (t % 256) false) (every (λ y. not (holding (isWaiting t) y)) (drop (j + 1) (slotsAt l))) true
+        → Passed ticketOf (slotsAt l) j (ok && clear) (set n (t % 256) true)
+    tickets-turn h w t clear en ec =
+        let is : ticketOf (slot .get l (slotOffset j)) ≡ some t = rw en (ticket-key l (slotOffset j) ∙ rw w) in
         let f : every (λ y. not (has (ticketOf y) t)) (drop (j + 1) (slotsAt l)) ≡ every (λ y. not (holding (isWaiting t) y)) (drop (j + 1) (slotsAt l)) =
         λ k. every (λ y. not (has-ticket t y k)) (drop (j + 1) (slotsAt l)) in
-        rw (ec, ← f) (passed-turn ticketOf (slotsAt l) i ok n h j e (slot .get l (slotOffset j)) here waits t is)
+        let z : marking n true t ≡ set n (t % 256) true = ap (λ (b : Bool). set n (t % 256) b) (or-true (getD n (t % 256) false)) in
+        rw (ec, ← f, ← z) (passed-turn ticketOf (slotsAt l) i ok n h j e (slot .get l (slotOffset j)) here true t is)
 
   pub marks-end : (key : Slot → Option ℕ) (i : ℕ) (ok : Bool) (n : List Bool) → Passed key (slotsAt l) i ok n → i ≤ 0 → ok ≡ differ key (slotsAt l)
   marks-end key i ok n h z = passed-end key (slotsAt l) i ok n h z
