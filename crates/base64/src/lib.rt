@@ -8,6 +8,9 @@ ghost use lib.Seq.{sets, slice};
 ghost use Rattle.octets.specs.Answers.{written};
 ghost use Rattle.base64.specs.Base64.{alphabet, letter, value, bits, quad1, quad2, quad3, encode, joined, letters, letters3, letters2, three, two, one, groupOf, octetsOf, valid, octets, measured, decoded, decodedInto, encoded};
 ghost use Rattle.base64.specs.Private.{values, groupAt, lettersAt, last};
+
+pub mod reader;
+
 use octets::Decoded;
 use octets::Encoded;
 use octets::Measured;
@@ -28,11 +31,11 @@ pub fn measure(text: &[u8]) -> Measured
     measure_by(&k, text)
 }
 
-// The same of the part of a line from one index up to another.
+// The same of the part of a line from one index up to another, through a reader.
 pub fn measure_part(line: &[u8], from: usize, to: usize) -> Measured
     ensures { λ r. ⌜ r ≡ measured (slice from to (now (line .entry))) ⌝ }
 {
-    measure(octets::part(line, from, to))
+    reader::measure_at(octets::part(line, 0, to), from)
 }
 
 // Decodes a text to the start of out. A text that is not base64, and one whose octets do not fit, leave out as it is.
@@ -55,11 +58,11 @@ pub fn decode(text: &[u8], out: &mut [u8]) -> Decoded
     }
 }
 
-// The same of the part of a line from one index up to another.
+// The same of the part of a line from one index up to another, through a reader.
 pub fn decode_part(line: &[u8], from: usize, to: usize, out: &mut [u8]) -> Decoded
     ensures { λ r. ⌜ (r ≡ decoded (slice from to (now (line .entry))) (length (now (out .entry)))) × (now (out .exit) ≡ decodedInto (slice from to (now (line .entry))) (now (out .entry))) ⌝ }
 {
-    decode(octets::part(line, from, to), out)
+    reader::decode_at(octets::part(line, 0, to), from, out)
 }
 
 // Writes the text of some octets into out from index at on. Where it does not fit, out is left as it is.

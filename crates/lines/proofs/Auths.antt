@@ -6,10 +6,10 @@ use Prim.Native.Nat.{ℕ, suc, _+_, _-_, _<_, _≤_}
 use native.Mathlib.Omega.{arith}
 use borrow.Author.Tests.{lt-ltb, le-ltb}
 use lib.ListN.{length, take, drop, length-drop}
-use lib.Seq.{slice, take-length, drop-drop}
+use lib.Seq.{slice, drop-drop}
 use Rattle.octets.specs.Ascii.{ascii, capitals}
 use Rattle.octets.specs.Lists.{isEmpty, same, before, after, holds}
-use Rattle.octets.proofs.Lists.{cut}
+use Rattle.octets.proofs.Lists.{cut, to-end}
 use Rattle.octets.proofs.Words.{before-take, after-drop, holds-before}
 use Rattle.base64.specs.Base64.{measured}
 use Rattle.lines.specs.Mechanism.{mechanism}
@@ -20,7 +20,7 @@ use Rattle.lines.specs.declared.auth.Auth.the-variants.{Malformed, Alone
 -- what stands after the mechanism, of which u is the code's part
 module _ (l : List ℕ) (to : ℕ) (u : List ℕ) (e : u ≡ slice (to + 1) (length l) l) where
   pub whole : u ≡ drop (to + 1) l
-  whole = e ∙ ap (drop (to + 1)) (take-length l)
+  whole = e ∙ to-end (to + 1) l
 
   pub equals : same u (ascii "=") ≡ true → Initial to (to + 2) 0 ≡ initial to (drop (to + 1) l)
   unfolding initial
@@ -34,7 +34,7 @@ module _ (l : List ℕ) (to : ℕ) (u : List ℕ) (e : u ≡ slice (to + 1) (len
       go [] k = refl
       go (x ∷ u) k = absurd (omega arith)
 
-  pub text : same u (ascii "=") ≡ false → (length u ≡ 0 → ⊥) → given to (measured u) ≡ initial to (drop (to + 1) l)
+  pub text : same u (ascii "=") ≡ false → (length u ≡ 0 → ⊥) → given to (measured (drop (to + 1) l)) ≡ initial to (drop (to + 1) l)
   unfolding initial
   text h k = rw (← whole, h) (go u k)
     where

@@ -57,7 +57,7 @@ fn read_initial(line: &[u8], to: usize) -> Auth
     if text.len() == 0 {
         return Auth::Malformed;
     }
-    let m = base64::measure(text);
+    let m = base64::reader::measure_at(line, to + 1);
     match m {
         Measured::Length(n) => Auth::Initial {
             to: to,
@@ -86,6 +86,6 @@ pub fn decode_initial(line: &[u8], found: Auth, out: &mut [u8]) -> Decoded
     match found {
         Auth::Malformed => base64::decode_part(line, 0, 0, out),
         Auth::Alone { .. } => base64::decode_part(line, 0, 0, out),
-        Auth::Initial { from, .. } => base64::decode_part(line, from, line.len(), out),
+        Auth::Initial { from, .. } => base64::reader::decode_at(line, from, out),
     }
 }

@@ -22,7 +22,7 @@ pub fn read_response(p: Profile, line: &[u8]) -> Response
     if octets::same(line, b"*") {
         return Response::Cancelled;
     }
-    let m = base64::measure(line);
+    let m = base64::reader::measure_at(line, 0);
     match m {
         Measured::Length(n) => Response::Length(n),
         Measured::Malformed => Response::Malformed,

@@ -15,7 +15,7 @@ use Rattle.xtext.specs.Xtext
 use Rattle.xtext.proofs.Laws.{length-octets}
 use Rattle.mail.specs.Address.{address}
 use Rattle.mail.specs.Parameter.{equals, named, good, null, AUTH, SUBMITTER, authValue}
-use Rattle.mail.specs.Mail.{space, greater, opens, pathEnds, rest, onto, words, spaced, parameters, count, allGood, said, identity, wellFormed, mail, addressText}
+use Rattle.mail.specs.Mail.{space, greater, opens, pathEnds, rest, onto, words, spaced, parameters, count, allGood, said, identity, wellFormed, mailAt, mail, addressText}
 use Rattle.mail.specs.declared.Mail.the-variants.{Malformed, Null, Address}
 use Rattle.mail.proofs.Whole.{value-drop, value-length, good-auth, rest-drop}
 
@@ -94,7 +94,7 @@ module _ (l : List ℕ) (from to n : ℕ) (e : mail l ≡ Address from to n) whe
       identity-read l (words r) (j + 1) from to n (placed l r (j + 1) z) h (rw y at f)
 
   pub address-read : (Xtext.valid (addressText (Address from to n) l) ≡ true) × (n ≡ length (Xtext.octets (addressText (Address from to n) l))) × (address (Xtext.octets (addressText (Address from to n) l)) ≡ true)
-  unfolding mail wellFormed allGood
+  unfolding mail mailAt wellFormed allGood
   address-read = go (wellFormed l) refl e
     where
       go : (b : Bool) → wellFormed l ≡ b → cond b (identity (length l - length (rest l) + 1) (parameters (rest l))) Malformed ≡ Address from to n → Reads (slice from to l) n

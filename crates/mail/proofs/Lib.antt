@@ -6,3 +6,4 @@ pub mod Parameters
 pub mod Lines
 pub mod Whole
 pub mod Laws
+pub mod Readings

@@ -12,7 +12,7 @@ use lib.Seq.{drop-cons, drop-drop}
 use Rattle.octets.specs.Lists.{before, after}
 use Rattle.mail.specs.Parameter.{equals, named, good, null, AUTH, SUBMITTER}
 use Rattle.mail.specs.Mail.{space, spaced, onto, words, parameters}
-use Rattle.mail.specs.Private.{saying, found, read, isAbsent, refused, onward, readWords, readRest}
+use Rattle.mail.specs.Private.{saying, found, read, isAbsent, refused, onward, readWords, readParameters}
 use Rattle.mail.specs.declared.Mail.{Mail}
 use Rattle.mail.specs.declared.parameter.Parameter.{Parameter}
 
@@ -44,12 +44,12 @@ spaced-past (x ∷ m) = go (eqb x space) refl (spaced-past m)
 
 -- the line's end, and what is no space
 module _ (l : List ℕ) (i : ℕ) (a : Mail) (s : Bool) where
-  pub rest-end : length l ≤ i → a ≡ readRest a s i (drop i l)
-  unfolding readRest readWords
+  pub rest-end : length l ≤ i → a ≡ readParameters a s i (drop i l)
+  unfolding readParameters readWords
   rest-end h = rw (drop-of-length-le l {i = i} h)
 
-  pub no-space : i < length l → (getD l i 0 ≡ space → ⊥) → Mail.Malformed ≡ readRest a s i (drop i l)
-  unfolding readRest
+  pub no-space : i < length l → (getD l i 0 ≡ space → ⊥) → Mail.Malformed ≡ readParameters a s i (drop i l)
+  unfolding readParameters
   no-space h e = rw (drop-cons l i 0 h, ne-eqb (getD l i 0) space e)
 
 -- a parameter that is read ends where it ends
@@ -84,21 +84,21 @@ refused-is a s (Parameter.Submitter n) k e = rw e
 
 -- a turn: the parameter after a space, as it was read
 module _ (l : List ℕ) (i : ℕ) (h : i < length l) (g : getD l i 0 ≡ space) (a : Mail) (s : Bool) (p : Parameter) (d : p ≡ read (i + 1) (before space (drop (i + 1) l))) where
-  starts : readRest a s i (drop i l) ≡ readWords a s (i + 1) (words (drop (i + 1) l))
-  unfolding readRest
+  starts : readParameters a s i (drop i l) ≡ readWords a s (i + 1) (words (drop (i + 1) l))
+  unfolding readParameters
   starts = rw (add-one, drop-cons l i 0 h, eq-eqb (getD l i 0) space g)
 
   abbrev onwards : Mail → Bool → ℕ → Mail
   onwards b t e = readWords b t (e + 1) (parameters (past (drop (i + 1) l)))
 
-  turn : readRest a s i (drop i l) ≡ onward a s p onwards
+  turn : readParameters a s i (drop i l) ≡ onward a s p onwards
   unfolding readWords
   turn = starts ∙ ap (readWords a s (i + 1)) (words-are (drop (i + 1) l)) ∙ rw d
 
-  pub refuses : refused a s p ≡ true → Mail.Malformed ≡ readRest a s i (drop i l)
+  pub refuses : refused a s p ≡ true → Mail.Malformed ≡ readParameters a s i (drop i l)
   refuses c = sym (turn ∙ refused-is a s p onwards c)
 
-  pub malformed : p ≡ Parameter.Malformed → Mail.Malformed ≡ readRest a s i (drop i l)
+  pub malformed : p ≡ Parameter.Malformed → Mail.Malformed ≡ readParameters a s i (drop i l)
   malformed c = sym (turn ∙ rw c)
 
   -- where the reading goes on
@@ -106,32 +106,32 @@ module _ (l : List ℕ) (i : ℕ) (h : i < length l) (g : getD l i 0 ≡ space) 
   ends-at x c = rw (sym d ∙ c) at (read-ends (i + 1) (before space (drop (i + 1) l)))
 
   module _ (e : ℕ) (z : i + 1 + length (before space (drop (i + 1) l)) ≡ e) where
-    goes-on : (b : Mail) (t : Bool) → readRest b t e (drop e l) ≡ onwards b t e
-    unfolding readRest
+    goes-on : (b : Mail) (t : Bool) → readParameters b t e (drop e l) ≡ onwards b t e
+    unfolding readParameters
     goes-on b t =
         let y : past (drop (i + 1) l) ≡ drop e l = drop-drop (length (before space (drop (i + 1) l))) (i + 1) l ∙ ap (λ (j : ℕ). drop j l) z in
         let x : spaced (drop e l) ≡ true = rw y at (spaced-past (drop (i + 1) l)) in
         rw (y, x)
 
   module _ (r : refused a s p ≡ false) (e : ℕ) where
-    pub other-next : p ≡ Parameter.Other e → (i < e) × (readRest a s e (drop e l) ≡ readRest a s i (drop i l))
+    pub other-next : p ≡ Parameter.Other e → (i < e) × (readParameters a s e (drop e l) ≡ readParameters a s i (drop i l))
     other-next c =
         let z = ends-at (Parameter.Other e) c in
         (omega arith, goes-on e z a s ∙ sym (turn ∙ rw c))
 
-    pub null-next : p ≡ Parameter.Null e → (i < e) × (readRest Mail.Null s e (drop e l) ≡ readRest a s i (drop i l))
+    pub null-next : p ≡ Parameter.Null e → (i < e) × (readParameters Mail.Null s e (drop e l) ≡ readParameters a s i (drop i l))
     null-next c =
         let z = ends-at (Parameter.Null e) c in
         let y : isAbsent a ≡ true = not-false (isAbsent a) (rw c at r) in
         (omega arith, goes-on e z Mail.Null s ∙ sym (turn ∙ rw (c, y)))
 
-    pub address-next : (from n : ℕ) → p ≡ Parameter.Address from e n → (i < e) × (readRest (Mail.Address from e n) s e (drop e l) ≡ readRest a s i (drop i l))
+    pub address-next : (from n : ℕ) → p ≡ Parameter.Address from e n → (i < e) × (readParameters (Mail.Address from e n) s e (drop e l) ≡ readParameters a s i (drop i l))
     address-next from n c =
         let z = ends-at (Parameter.Address from e n) c in
         let y : isAbsent a ≡ true = not-false (isAbsent a) (rw c at r) in
         (omega arith, goes-on e z (Mail.Address from e n) s ∙ sym (turn ∙ rw (c, y)))
 
-    pub submitter-next : p ≡ Parameter.Submitter e → (i < e) × (readRest a true e (drop e l) ≡ readRest a s i (drop i l))
+    pub submitter-next : p ≡ Parameter.Submitter e → (i < e) × (readParameters a true e (drop e l) ≡ readParameters a s i (drop i l))
     submitter-next c =
         let z = ends-at (Parameter.Submitter e) c in
         let y : s ≡ false = rw c at r in

@@ -6,16 +6,17 @@ use Prim.Native.Nat.{ℕ, suc, _+_, _-_, _<_, _≤_}
 use native.Mathlib.Omega.{arith}
 use borrow.Author.Tests.{lt-leb, lt-ltb, le-ltb}
 use lib.Dec.{leb, leb·suc-suc}
-use lib.ListN.{length, drop, length-drop, length-map}
+use lib.ListN.{length, drop, length-drop, length-map, drop-of-length-le}
 use lib.Seq.{slice, drop-drop}
 use Rattle.octets.specs.Ascii.{ascii, capital, capitals}
 use Rattle.octets.specs.Lists.{holds, every, same, before, after}
 use Rattle.octets.proofs.Cases.{both, split}
+use Rattle.octets.proofs.Lists.{cut}
 use Rattle.octets.proofs.Words.{same-true, after-drop, holds-before}
 use Rattle.xtext.specs.Xtext
 use Rattle.mail.specs.Parameter.{equals, parameter, named, good, null, AUTH, SUBMITTER, authValue, submitterValue}
-use Rattle.mail.specs.Mail.{opens, pathEnds, greater, rest, spaced, parameters, count, allGood, said, identity, wellFormed, mail}
-use Rattle.mail.specs.Private.{saying, found, read, isAbsent, onward, readWords, readRest}
+use Rattle.mail.specs.Mail.{opens, pathEnds, greater, rest, spaced, parameters, count, allGood, said, identity, wellFormed, mailAt}
+use Rattle.mail.specs.Private.{saying, found, read, isAbsent, onward, readWords, readParameters}
 use Rattle.mail.specs.declared.Mail.{Mail}
 use Rattle.mail.specs.declared.parameter.Parameter.{Parameter}
 use Rattle.mail.proofs.Values.{some-octet}
@@ -145,40 +146,49 @@ read-all (w ∷ ws) a s i =
     (λ g. rw g)
 
 -- from index i on, with nothing met
-rest-is : (i : ℕ) (r : List ℕ) → readRest Mail.Absent false i r ≡ cond (spaced r && allGood (parameters r)) (identity (i + 1) (parameters r)) Mail.Malformed
-unfolding readRest allGood
+rest-is : (i : ℕ) (r : List ℕ) → readParameters Mail.Absent false i r ≡ cond (spaced r && allGood (parameters r)) (identity (i + 1) (parameters r)) Mail.Malformed
+unfolding readParameters allGood
 rest-is i r = go (spaced r)
   where
     go : (b : Bool) → cond b (readWords Mail.Absent false (i + 1) (parameters r)) Mail.Malformed ≡ cond (b && (every good (parameters r) && leb (count AUTH (parameters r)) 1 && leb (count SUBMITTER (parameters r)) 1)) (identity (i + 1) (parameters r)) Mail.Malformed
     go true = read-all (parameters r) Mail.Absent false (i + 1)
     go false = refl
 
--- the whole line
-module _ (l : List ℕ) where
-  pub rest-drop : rest l ≡ drop (11 + suc (length (before greater (drop 11 l)))) l
-  unfolding rest
-  rest-drop = after-drop greater (drop 11 l) ∙ drop-drop (suc (length (before greater (drop 11 l)))) 11 l
+-- what follows the path
+pub rest-drop : (t : List ℕ) → rest t ≡ drop (11 + suc (length (before greater (drop 11 t)))) t
+unfolding rest
+rest-drop t = after-drop greater (drop 11 t) ∙ drop-drop (suc (length (before greater (drop 11 t)))) 11 t
 
-  pub opens-is : (t : List ℕ) (b : Bool) → t ≡ slice 0 11 l → b ≡ same (capitals t) (ascii "MAIL FROM:<") → b ≡ opens l
+-- a line that begins at an index
+module _ (l : List ℕ) (at : ℕ) where
+  pub begins-past : length l < at → Mail.Malformed ≡ mailAt l at
+  unfolding mailAt wellFormed opens same
+  begins-past h = rw (drop-of-length-le l {i = at} (omega arith))
+
+  pub opens-is : (t : List ℕ) (b : Bool) → t ≡ slice at (at + 11) l → b ≡ same (capitals t) (ascii "MAIL FROM:<") → b ≡ opens (drop at l)
   unfolding opens
-  opens-is t b e f = f ∙ rw e
+  opens-is t b e f = let y : at + 11 - at ≡ 11 = omega arith in f ∙ rw (e, ← (cut at (at + 11) l), y)
 
-  pub no-opening : opens l ≡ false → Mail.Malformed ≡ mail l
-  unfolding mail wellFormed
+  pub no-opening : opens (drop at l) ≡ false → Mail.Malformed ≡ mailAt l at
+  unfolding mailAt wellFormed
   no-opening e = rw e
 
-  module _ (e : ℕ) (q : e ≡ 11 + length (before greater (drop 11 l))) where
-    pub no-path : opens l ≡ true → length l ≤ e → Mail.Malformed ≡ mail l
-    unfolding mail wellFormed pathEnds
-    no-path o h =
-        let z : holds greater (drop 11 l) ≡ false = holds-before greater (drop 11 l) ∙ le-ltb (length (before greater (drop 11 l))) (length (drop 11 l)) (omega (arith, length-drop 11 l)) in
-        rw (o, z)
+  module _ (e : ℕ) (q : e ≡ at + 11 + length (before greater (drop (at + 11) l))) where
+    -- the path's end, as an index of the line
+    after-path : drop 11 (drop at l) ≡ drop (at + 11) l
+    after-path = drop-drop 11 at l
 
-    pub whole : opens l ≡ true → e < length l → readRest Mail.Absent false (e + 1) (drop (e + 1) l) ≡ mail l
-    unfolding mail wellFormed pathEnds
+    pub no-path : opens (drop at l) ≡ true → length l ≤ e → Mail.Malformed ≡ mailAt l at
+    unfolding mailAt wellFormed pathEnds
+    no-path o h =
+        let z : holds greater (drop (at + 11) l) ≡ false = holds-before greater (drop (at + 11) l) ∙ le-ltb (length (before greater (drop (at + 11) l))) (length (drop (at + 11) l)) (omega (arith, length-drop (at + 11) l)) in
+        rw (o, after-path, z)
+
+    pub whole : opens (drop at l) ≡ true → e < length l → readParameters Mail.Absent false (e + 1) (drop (e + 1) l) ≡ mailAt l at
+    unfolding mailAt wellFormed pathEnds
     whole o h =
-        let z : holds greater (drop 11 l) ≡ true = holds-before greater (drop 11 l) ∙ lt-ltb (length (before greater (drop 11 l))) (length (drop 11 l)) (omega (arith, length-drop 11 l)) in
-        let y : 11 + suc (length (before greater (drop 11 l))) ≡ e + 1 = omega arith in
-        let r : rest l ≡ drop (e + 1) l = rest-drop ∙ ap (λ (n : ℕ). drop n l) y in
+        let z : holds greater (drop (at + 11) l) ≡ true = holds-before greater (drop (at + 11) l) ∙ lt-ltb (length (before greater (drop (at + 11) l))) (length (drop (at + 11) l)) (omega (arith, length-drop (at + 11) l)) in
+        let y : at + (11 + suc (length (before greater (drop (at + 11) l)))) ≡ e + 1 = omega arith in
+        let r : rest (drop at l) ≡ drop (e + 1) l = rest-drop (drop at l) ∙ ap (λ (t : List ℕ). drop (11 + suc (length (before greater t))) (drop at l)) after-path ∙ drop-drop (11 + suc (length (before greater (drop (at + 11) l)))) at l ∙ ap (λ (n : ℕ). drop n l) y in
         let x : length l - length (drop (e + 1) l) ≡ e + 1 = omega (arith, length-drop (e + 1) l) in
-        rw (o, z, r, x) (rest-is (e + 1) (drop (e + 1) l))
+        rw (o, after-path, z, r, x) (rest-is (e + 1) (drop (e + 1) l))

@@ -3,3 +3,4 @@ pub mod Address
 pub mod Parameter
 pub mod Mail
 pub mod Private
+pub mod Reader

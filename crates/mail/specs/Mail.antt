@@ -62,8 +62,12 @@ identity i (w ∷ ws) = cond (named AUTH w) (said (i + length AUTH + 1) (after e
 unfoldable pub wellFormed : List ℕ → Bool
 wellFormed l = opens l && pathEnds l && spaced (rest l) && allGood (parameters (rest l))
 
+-- what it says, where it begins at an index of a line and goes on to the line's end; and where it is the whole line
+unfoldable pub mailAt : List ℕ → ℕ → Mail
+mailAt l at = cond (wellFormed (drop at l)) (identity (length l - length (rest (drop at l)) + 1) (parameters (rest (drop at l)))) Malformed
+
 unfoldable pub mail : List ℕ → Mail
-mail l = cond (wellFormed l) (identity (length l - length (rest l) + 1) (parameters (rest l))) Malformed
+mail l = mailAt l 0
 
 -- the xtext of the address, which a line's reading points to: the part of the line from one index up to another
 abbrev pub addressText : Mail → List ℕ → List ℕ

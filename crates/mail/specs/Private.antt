@@ -110,5 +110,5 @@ readWords a s i [] = a
 readWords a s i (w ∷ ws) = onward a s (read i w) (λ b t e. readWords b t (e + 1) ws)
 
 -- what stands after the path, from index i on
-unfoldable pub readRest : Mail → Bool → ℕ → List ℕ → Mail
-readRest a s i r = cond (spaced r) (readWords a s (i + 1) (parameters r)) Mail.Malformed
+unfoldable pub readParameters : Mail → Bool → ℕ → List ℕ → Mail
+readParameters a s i r = cond (spaced r) (readWords a s (i + 1) (parameters r)) Mail.Malformed

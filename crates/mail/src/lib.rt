@@ -3,12 +3,13 @@ ghost use mathlib.Core.Path.{_≡_};
 ghost use mathlib.Core.Bool.{false};
 ghost use lib.ListN.{length, drop};
 ghost use Rattle.xtext.specs.Xtext.{decoded, decodedInto};
-ghost use Rattle.mail.specs.Mail.{mail, addressText};
-ghost use Rattle.mail.specs.Private.{isAbsent, refused, readRest};
+ghost use Rattle.mail.specs.Mail.{mail, mailAt, addressText};
+ghost use Rattle.mail.specs.Private.{isAbsent, refused, readParameters};
 ghost use Rattle.mail.specs.declared.Mail.the-variants.{Absent};
 
 mod address;
 mod parameter;
+pub mod reader;
 
 use octets::Decoded;
 use parameter::Parameter;
@@ -26,18 +27,11 @@ pub enum Mail {
     },
 }
 
-// Reads a MAIL line.
+// Reads a MAIL line, through a reader.
 pub fn read_mail(line: &[u8]) -> Mail
     ensures { λ r. ⌜ r ≡ mail (now (line .entry)) ⌝ }
 {
-    if !octets::is_word(octets::part(line, 0, 11), b"MAIL FROM:<") {
-        return Mail::Malformed;
-    }
-    let end = octets::find(line, 11, b'>');
-    if line.len() <= end {
-        return Mail::Malformed;
-    }
-    read_rest(line, end + 1)
+    reader::read_at(line, 0)
 }
 
 // Decodes the address that a reading of the line found to the start of out; nothing where it found none.
@@ -52,9 +46,26 @@ pub fn decode_address(line: &[u8], found: Mail, out: &mut [u8]) -> Decoded
     }
 }
 
+// Reads a MAIL line that begins at an index.
+fn mail_from(line: &[u8], at: usize) -> Mail
+    ensures { λ r. ⌜ r ≡ mailAt (now (line .entry)) at ⌝ }
+{
+    if line.len() < at {
+        return Mail::Malformed;
+    }
+    if !octets::is_word(octets::part(line, at, at + 11), b"MAIL FROM:<") {
+        return Mail::Malformed;
+    }
+    let end = octets::find(line, at + 11, b'>');
+    if line.len() <= end {
+        return Mail::Malformed;
+    }
+    read_parameters(line, end + 1)
+}
+
 // Reads the parameters, each after one space, from an index on to the line's end: what AUTH says, and whether SUBMITTER was met.
-fn read_rest(line: &[u8], at: usize) -> Mail
-    ensures { λ r. ⌜ r ≡ readRest Absent false at (drop at (now (line .entry))) ⌝ }
+fn read_parameters(line: &[u8], at: usize) -> Mail
+    ensures { λ r. ⌜ r ≡ readParameters Absent false at (drop at (now (line .entry))) ⌝ }
 {
     let mut auth = Mail::Absent;
     let mut submitter = false;

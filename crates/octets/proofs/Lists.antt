@@ -6,9 +6,13 @@ use native.Mathlib.Nat.{add-zero, sub-zero, zero-sub}
 use native.Mathlib.Numerals.{add-one, add-two, add-three, add-four}
 use native.Mathlib.Omega.{arith}
 use lib.ListN.{length, getD, take, drop, set, length-take, drop-of-length-le}
-use lib.Seq.{drop-cons, take-nil, take-all, sets, slice}
+use lib.Seq.{drop-cons, take-nil, take-all, take-length, sets, slice}
 
 -- a part, as code cuts it out of a slice
+-- up to the line's end
+pub to-end : (from : ℕ) (l : List ℕ) → slice from (length l) l ≡ drop from l
+to-end from l = ap (drop from) (take-length l)
+
 pub cut : (from to : ℕ) (l : List ℕ) → take (to - from) (drop from l) ≡ slice from to l
 cut zero to l = rw sub-zero
 cut (suc from) zero l = rw zero-sub

@@ -3,3 +3,4 @@ pub mod Answers
 pub mod Alphabet
 pub mod Lists
 pub mod Ascii
+pub mod Reader

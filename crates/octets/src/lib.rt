@@ -7,6 +7,8 @@ ghost use Rattle.octets.specs.Answers.{written, encoded};
 ghost use Rattle.octets.specs.Ascii.{capital, capitals};
 ghost use Rattle.octets.specs.Lists.{same, before};
 
+pub mod reader;
+
 // A look at a text: how many octets it decodes to.
 pub enum Measured {
     Length(usize),

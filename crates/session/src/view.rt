@@ -101,7 +101,7 @@ impl View {
     {
         match self {
             View::Command(command) => decode_initial(line, auth_command(command), out),
-            View::Response(_) => base64::decode(line, out),
+            View::Response(_) => base64::reader::decode_at(line, 0, out),
             View::Unread => decode_initial(line, Auth::Malformed, out),
         }
     }

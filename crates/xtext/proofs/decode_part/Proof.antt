@@ -9,4 +9,4 @@ decode-part-spec =
     (λ c κs. search needs)
     (λ c κs. search needs)
     (λ c. search needs)
-    (λ c. rw (← (c .before .before .before .before .part .ensures)) (c .before .before .decode .ensures)))
+    (λ c. rw (← (c .before .before .before .before .part .ensures)) (c .before .before .decode-at .ensures)))

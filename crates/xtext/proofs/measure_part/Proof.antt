@@ -8,4 +8,4 @@ measure-part-spec =
     (tie.spec
     (λ c κs. search needs)
     (λ c κs. search needs)
-    (λ c. rw (← (c .before .part .ensures)) (c .measure .ensures)))
+    (λ c. rw (← (c .before .part .ensures)) (c .measure-at .ensures)))

@@ -9,12 +9,12 @@ use Rattle.lines.proofs.response.read_response.Tie as tie
 returns-3 : tie.Need-returns-3
 returns-3 c =
     let m = c .before .before .before in
-    ap decoding (sym (c .before .m .given .1) ∙ m .measure .ensures) ∙ text _ _ (omega arith) (sym (m .before .before .same .ensures) ∙ m .before .if2 .left)
+    ap decoding (sym (c .before .m .given .1) ∙ m .measure-at .ensures) ∙ text _ _ (omega arith) (sym (m .before .before .same .ensures) ∙ m .before .if2 .left)
 
 returns-4 : tie.Need-returns-4
 returns-4 c =
     let m = c .before .before in
-    ap decoding (sym (c .enum-told .given .1) ∙ m .measure .ensures) ∙ text _ _ (omega arith) (sym (m .before .before .same .ensures) ∙ m .before .if2 .left)
+    ap decoding (sym (c .enum-told .given .1) ∙ m .measure-at .ensures) ∙ text _ _ (omega arith) (sym (m .before .before .same .ensures) ∙ m .before .if2 .left)
 
 pub read-response-spec : {M : Type 1} → statement M
 read-response-spec =

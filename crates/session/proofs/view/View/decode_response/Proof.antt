@@ -16,6 +16,6 @@ decode-response-spec =
     (λ c. search needs)
     (λ c. rw (c .before .before .before .before .before .before .self .given .1) (rw (c .before .before .before .before .auth-command .ensures) at (c .before .before .decode-initial .ensures)))
     (λ c. search needs)
-    (λ c. rw (c .before .before .before .before .enum-told .given .1) (c .before .before .decode .ensures))
+    (λ c. rw (c .before .before .before .before .enum-told .given .1) (c .before .before .decode-at .ensures))
     (λ c. search needs)
     (λ c. rw (c .before .before .before .before .enum-told2 .given .1) (c .before .before .decode-initial2 .ensures)))

@@ -4,20 +4,20 @@ use Prim.Native.Nat.{_-_}
 use native.Mathlib.Omega.{arith}
 use borrow.Author.Needs.{needs}
 use lib.ListN.{length, drop}
-use Rattle.mail.specs.Private.{readRest}
+use Rattle.mail.specs.Private.{readParameters}
 use Rattle.mail.specs.declared.Mail.the-variants.{Absent}
 use Rattle.mail.proofs.Lines.{rest-end, no-space, refuses, malformed, other-next, null-next, address-next, submitter-next}
-use Rattle.mail.proofs.read_rest.Statement.{statement}
-use Rattle.mail.proofs.read_rest.Tie as tie
+use Rattle.mail.proofs.read_parameters.Statement.{statement}
+use Rattle.mail.proofs.read_parameters.Tie as tie
 
 abbrev Inv-loop : tie.InvT-loop
-Inv-loop line at auth₀ submitter₀ i₀ auth submitter i = readRest auth submitter i (drop i line) ≡ readRest Absent false at (drop at line)
+Inv-loop line at auth₀ submitter₀ i₀ auth submitter i = readParameters auth submitter i (drop i line) ≡ readParameters Absent false at (drop at line)
 
 abbrev μ-loop : tie.MeasureT-loop
 μ-loop line at auth₀ submitter₀ i₀ auth submitter i = length line - i
 
-pub read-rest-spec : {M : Type 1} → statement M
-read-rest-spec =
+pub read-parameters-spec : {M : Type 1} → statement M
+read-parameters-spec =
     tie.close
     (tie.spec
     Inv-loop
