@@ -1,0 +1,4 @@
+-- What the proofs of lent share.
+pub mod Passed
+pub mod Lent
+pub mod Lends
