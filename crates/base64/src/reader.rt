@@ -9,7 +9,7 @@ use octets::reader::Decoding;
 use octets::reader::Measuring;
 use octets::reader::Reader;
 
-// Over a line and a number: the answer, and the index reached.
+// Over a line and a number: how many octets the rest of the line decodes to, and the index reached.
 pub fn measure_from(line: &[u8], at: usize) -> Measuring
     ensures { λ r. ⌜ r ≡ measuring (measured (drop at (now (line .entry)))) (now (line .entry)) at ⌝ }
 {
@@ -17,6 +17,7 @@ pub fn measure_from(line: &[u8], at: usize) -> Measuring
     octets::reader::measured_to(line, at, answer)
 }
 
+// Decodes the rest of the line to the start of out.
 pub fn decode_from(line: &[u8], at: usize, out: &mut [u8]) -> Decoding
     ensures { λ r. ⌜ (r ≡ decoding (decoded (drop at (now (line .entry))) (length (now (out .entry)))) (now (line .entry)) at) × (now (out .exit) ≡ decodedInto (drop at (now (line .entry))) (now (out .entry))) ⌝ }
 {

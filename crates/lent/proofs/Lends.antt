@@ -1,7 +1,7 @@
 -- The law of a function that is lent a session and has a step update it,
 --     { let stepped = step(*s, x, y, z); *s = stepped.session; stepped.answer }
 -- where the step takes the session by value and gives what `after` says. What the function promises has to hold of that answer and that session.
--- All that the walk knows of the step is that it meets its contract.
+-- All that the walk knows of the step is that it meets its contract. Assumes nothing.
 use mathlib.Core.Path.{refl, _≡_, ap, sym, subst}
 use mathlib.Core.List.{[], _∷_, List}
 use Prim.Native.Nat.{ℕ, suc}
@@ -48,8 +48,8 @@ use Rattle.session.proofs.Stepped.Laws as Res′
 use Rattle.session.proofs.answer.Answer as Ans
 use Rattle.session.proofs.answer.Answer.Laws as Ans′
 use Rattle.lent.proofs.Passed.{Passed, row}
-use Rattle.octets.proofs.Walks.{hears, promises, by-walk}
-use Rattle.lent.proofs.Lent.{vals, fits, lies, left}
+use Rattle.octets.proofs.Walks.{lies, hears, promises, by-walk}
+use Rattle.lent.proofs.Lent.{vals, tells, fits, left}
 
 module _ {m : ℕ} (P Q R : Passed m) (after : Session → P .D → Q .D → R .D → Stepped) where
   abbrev rows : Lfts m → List RattleType
@@ -145,15 +145,15 @@ module _ {m : ℕ} (P Q R : Passed m) (after : Session → P .D → Q .D → R .
           enter ! C Λ (function step) (vptr b o ∷ P .val x ∷ Q .val y ∷ R .val z ∷ []) _ $
           alloc1 ! (λ l₀. alloc1 ! (λ l₁. alloc1 ! (λ l₂. alloc1 ! (λ l₃. alloc1 ! (λ l₄. alloc1 ! (λ l₅. alloc1 ! (λ l₆. alloc0 ! $ params1 ! $
           pass1 ! (init ! 10 refl (tt, tt)) $ pass1 ! (init ! 8 refl (p-x .0)) $ pass1 ! (init ! 6 refl (p-y .0)) $ pass1 ! (init ! 4 refl (p-z .0)) $ pass0 ! $
-          move ! (14 ∷ 15 ∷ 16 ∷ []) $ lies ! tt h b o (λ was.
-          -- [the session’s cell; what it owns; the open borrow; seen; its other half; _6; …; _5; …; _4; …; _3; …; _2; …; _1; …; _0; …; Others; Tokens]
+          move ! (14 ∷ 15 ∷ 16 ∷ []) $ lies ! tt Ses.the-row vals tells h b o (λ was.
+          -- [the session's cell; what it owns; the open borrow; seen; its other half; _6; …; _5; …; _4; …; _3; …; _2; …; _1; …; _0; …; Others; Tokens]
           assigns ! (of-opd ! (load ! (from ! (hop ! (look ! 15 refl) (stop !))) (look-raw ! 0 refl))) (from ! (stop !)) (init ! 5 refl (fits 𝓤 H A W h _ was)) $
           move ! (19 ∷ []) $ use1 W (‵ Others ⊛ ‵ Others) (twices 𝓤 H A W (rows κs) (record { twice = P .twice 𝓤 H A W κs }, (record { twice = Q .twice 𝓤 H A W κs }, (record { twice = R .twice 𝓤 H A W κs }, tt))) (args .1) ats) $ split ! $
           move ! (3 ∷ 0 ∷ []) $ fjoin ! $ move ! (20 ∷ 0 ∷ []) $ join ! $ nothing ! $ move ! (1 ∷ 0 ∷ []) $ join ! $ use1 W (raw (Step 𝓤 H A .pre to)) (id⊢ 𝓤 _) $
-          -- [what the step asks; Others; the session’s cell; the open borrow; seen; its other half; _6; …; _5; …; _4; …; _3; …; _2; …; _1; …; _0; …]
+          -- [what the step asks; Others; the session's cell; the open borrow; seen; its other half; _6; …; _5; …; _4; …; _3; …; _2; …; _1; …; _0; …]
           calls-at ! fm (Step 𝓤 H A) known to (and-then ! (load ! (from ! (stop !)) (look ! 6 refl)) (and-then ! (load ! (from ! (stop !)) (look ! 14 refl)) (and-then ! (load ! (from ! (stop !)) (look ! 12 refl)) (and-then ! (load ! (from ! (stop !)) (look ! 10 refl)) (no-more !))))) (λ v.
           hears Tokens (λ r. Res.the-row .own r (v ∷ [])) (lasts by-value κs (h, args .1)) (λ r _. r ≡ after h x y z) ! tt (λ r _ e. drop ! $
-          -- [what the result owns; Tokens; Others; the session’s cell; the open borrow; seen; its other half; _6; …; _5; …; _4; …; _3; …; _2; …; _1; …; _0; …]
+          -- [what the result owns; Tokens; Others; the session's cell; the open borrow; seen; its other half; _6; …; _5; …; _4; …; _3; …; _2; …; _1; …; _0; …]
           peeks ! Res.the-row (Is Res.the-row) (shows 𝓤 H A Res.the-row) r (v ∷ []) (λ is. land ! (from ! (stop !)) (init ! 9 refl (Struct.lawful Res.the-type Res′.the-laws 𝓤 H A W .typed r _ is .0)) $
           rewrite ! 9 (λ (u : Val). ‵ (fat fullShare Res′.mir l₅ 0 u)) (ap only (Struct.tells Res.the-type Res′.the-laws r (v ∷ []) is)) refl $
           assigns ! (of-opd ! (load ! (from ! (fld ! refl (stop !))) (look-in ! 9 (sub ! 0 refl (whole !))))) (from ! (hop ! (look ! 17 refl) (stop !))) (store-raw ! 3 refl (fits 𝓤 H A W (r .session) _ (Struct.owed Res.the-type Res′.the-laws r _ is .0))) $

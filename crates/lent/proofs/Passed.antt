@@ -1,4 +1,4 @@
--- A parameter that a function passes on: its type is Copy, and has one machine value.
+-- A parameter that a function passes on: its type is Copy, and has one machine value. Assumes nothing.
 use mathlib.Core.Path.{_≡_}
 use mathlib.Core.List.{[], _∷_, List}
 use Prim.Native.Nat.{ℕ}

@@ -24,7 +24,7 @@ use denote.Builtin.{u8, usize}
 use denote.Ref.{NamedLft, MutRef}
 use denote.Lend.{lends-ref, ref-back}
 use denote.Slice.{sliceVal, ShrSlice}
-use denote.Steps.{opens, closes, owned, nothing, peeks}
+use denote.Steps.{closes, owned, nothing}
 use denote.Enum.Declared as Enums
 use denote.Enum.Enum.{Plainss}
 use denote.Struct.Declared.{Declared}
@@ -35,6 +35,7 @@ use denote.Struct.Steps.{spelt}
 use denote.Struct.Laws as LL
 use Rattle.octets.specs.Reader.{moved}
 use Rattle.octets.specs.declared.reader.Reader.{Reader}
+use Rattle.octets.proofs.Walks.{lies}
 use Rattle.octets.proofs.reader.Reader as T
 use Rattle.octets.proofs.reader.Reader.Laws as T′
 
@@ -129,10 +130,7 @@ module _ {M : Type 1} {𝓤 : URA M} {H : Heap 𝓤} {A : Atoms 𝓤} {K : Type 
   pub opens-reader : K → Soaks G → (κ κ′ : Lft) {q : Share} {γ : GName} (h : Reader) (b o : ℕ)
       → (Is (B κ′) h (T′.lowered h ∷ []) → Seq K W (‵ (cell b o h) ∷ ‵ (Own κ′ h) ∷ ‵ (fobor κ q (Body (mem (B κ′)) b o γ)) ∷ ‵ (seen κ′ γ h) ∷ ‵ (fauth γ (B κ′ .coded .code h)) ∷ Γ) G)
       → Seq K W (‵ (seen κ′ γ h) ∷ ‵ (on-loan κ κ′ b o γ) ∷ ‵ (flft κ q) ∷ Γ) G
-  opens-reader t z κ κ′ h b o k =
-      opens t z (B κ′) {h = h} b o (λ vs. spelt t (B κ′) (Is (B κ′)) (shows 𝓤 H A (B κ′)) (LL.vals (D κ′) (L κ′)) (LL.tells (D κ′) (L κ′)) fullShare h vs b o $
-      use1 W (‵ (cell b o h)) (W .laws .raw-at fullShare (T′.mir erased) b o (T′.lowered h)) $ move t (1 ∷ []) $
-      peeks t (B κ′) (Is (B κ′)) (shows 𝓤 H A (B κ′)) h (T′.lowered h ∷ []) (λ was. move t (1 ∷ 0 ∷ []) $ k was))
+  opens-reader t z κ κ′ h b o k = lies t z (B κ′) (LL.vals (D κ′) (L κ′)) (LL.tells (D κ′) (L κ′)) h b o (λ was. use1 W (‵ (cell b o h)) (W .laws .raw-at fullShare (T′.mir erased) b o (T′.lowered h)) $ k was)
 
   pub closes-reader : K → Soaks G → (κ κ′ : Lft) {q : Share} {γ : GName} (h z : Reader) (b o : ℕ)
       → Step K W (‵ (seen κ′ γ z) ∷ ‵ (on-loan κ κ′ b o γ) ∷ ‵ (flft κ q) ∷ Γ) G (‵ (cell b o z) ∷ ‵ (Own κ′ z) ∷ ‵ (fobor κ q (Body (mem (B κ′)) b o γ)) ∷ ‵ (seen κ′ γ h) ∷ ‵ (fauth γ (B κ′ .coded .code h)) ∷ Γ) G

@@ -4,7 +4,7 @@ ghost use Rattle.octets.specs.Reader.{end, measuring, decoding};
 use crate::Decoded;
 use crate::Measured;
 
-// A line and the index reached in it.
+// A line and the index reached in it. Past the line's end nothing is left to read.
 pub struct Reader<'a> {
     pub line: &'a [u8],
     pub at: usize,

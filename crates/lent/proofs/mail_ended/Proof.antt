@@ -30,8 +30,8 @@ use Rattle.session.proofs.Session as Ses
 use Rattle.session.proofs.Session.mail_ended as step
 use Rattle.session.proofs.Session.mail_ended.Symbol as symbol
 use Rattle.session.proofs.Session.mail_ended.Met as step-thm
-use Rattle.octets.proofs.Walks.{hears, by-walk}
-use Rattle.lent.proofs.Lent.{vals, fits, lies, left}
+use Rattle.octets.proofs.Walks.{lies, hears, by-walk}
+use Rattle.lent.proofs.Lent.{vals, tells, fits, left}
 use Rattle.lent.proofs.mail_ended as f
 use Rattle.lent.proofs.mail_ended.Key.{name as #own}
 use Rattle.lent.proofs.mail_ended.Statement as stated
@@ -67,13 +67,13 @@ module _ {M : Type 1} (𝓤 : URA M) (H : Heap 𝓤) (𝓜 : Model 𝓤 H) (𝓖
     walk C Λ fm known =
         qed W ((‵ (flft κ q) ⊛ ‵ ftrue) ∷ ‵ (owns (MutRef (named 0) κ Ses.the-row ∷ []) args (vptr b o ∷ [], tt)) ∷ []) ∵ split ! $ move ! (2 ∷ []) $ fsplit ! $ fsplit3 ! $ drop ! $ keep ! (0 ∷ 1 ∷ 3 ∷ []) $
         enter ! C Λ code.function (vptr b o ∷ []) _ $ alloc1 ! (λ l₀. alloc1 ! (λ l₁. alloc1 ! (λ l₂. alloc1 ! (λ l₃. alloc0 ! $ params1 ! $ pass1 ! (init ! 4 refl (tt, tt)) $ pass0 ! $
-        move ! (8 ∷ 9 ∷ 10 ∷ []) $ lies ! tt h b o (λ was.
-        -- [the session’s cell; what it owns; the open borrow; seen; its other half; _3; …; _2; …; _1; …; _0; …]
+        move ! (8 ∷ 9 ∷ 10 ∷ []) $ lies ! tt Ses.the-row vals tells h b o (λ was.
+        -- [the session's cell; what it owns; the open borrow; seen; its other half; _3; …; _2; …; _1; …; _0; …]
         assigns ! (of-opd ! (load ! (from ! (hop ! (look ! 9 refl) (stop !))) (look-raw ! 0 refl))) (from ! (stop !)) (init ! 5 refl (fits 𝓤 H (𝓖 .A) W h _ was)) $
         nothing ! $ move ! (2 ∷ 0 ∷ []) $ fjoin ! $ nothing ! $ join ! $ nothing ! $ move ! (1 ∷ 0 ∷ []) $ join ! $ use1 W (raw (Step .pre to)) (id⊢ 𝓤 _) $
         calls-at ! fm Step known to (and-then ! (load ! (from ! (stop !)) (look ! 5 refl)) (no-more !)) (λ v.
         hears (‵ ftrue) (λ r. Ses.the-row .own r (v ∷ [])) (lasts step.ended tt (h, tt)) (λ r _. r ≡ afterMail h) ! tt (λ r _ e. drop ! $ move ! (1 ∷ []) $ drop ! $
-        -- [what the result owns; the session’s cell; the open borrow; seen; its other half; _3; …; _2; …; _1; …; _0; …]
+        -- [what the result owns; the session's cell; the open borrow; seen; its other half; _3; …; _2; …; _1; …; _0; …]
         peeks ! Ses.the-row (Is Ses.the-row) (shows 𝓤 H (𝓖 .A) Ses.the-row) r (v ∷ []) (λ is. land ! (from ! (stop !)) (init ! 7 refl (fits 𝓤 H (𝓖 .A) W r _ is)) $
         assigns ! (of-opd ! (load ! (from ! (stop !)) (look ! 7 refl))) (from ! (hop ! (look ! 9 refl) (stop !))) (store-raw ! 1 refl (fits 𝓤 H (𝓖 .A) W r _ is)) $
         assigns ! (of-opd ! (unit-lit !)) (from ! (stop !)) (init ! 11 refl (tt, tt)) $ move ! (1 ∷ 0 ∷ []) $ closes ! tt Ses.the-row r (v ∷ []) b o $
