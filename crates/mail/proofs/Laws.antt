@@ -19,6 +19,11 @@ use Rattle.mail.specs.Mail.{space, greater, opens, pathEnds, rest, onto,
 use Rattle.mail.specs.declared.Mail.the-variants.{Malformed, Null, Address}
 use Rattle.mail.proofs.Whole.{value-drop, value-length, good-auth, rest-drop}
 
+-- the whole line, with no index in it
+pub mail-whole : (l : List ℕ) → mail l ≡ cond (wellFormed l) (identity (length l - length (rest l) + 1) (parameters (rest l))) Malformed
+unfolding mail mailAt
+mail-whole l = refl
+
 -- words stand in a line one after the other, the first at index i
 abbrev Placed : List ℕ → ℕ → List (List ℕ) → Type 0
 Placed l i [] = Unit {0}

@@ -54,6 +54,10 @@ B κ = T.the-row (α κ)
 abbrev pub erasedAt : Lft → NamedLft
 erasedAt κ = record { mir = erased; lft = κ }
 
+-- a line's machine value
+abbrev pub line-val : Reader → Val
+line-val h = sliceVal (h .line .ptr) (length (h .line .now))
+
 module _ (κ : Lft) where
   abbrev pub D : Declared
   D = T.the-type (α κ)
@@ -62,9 +66,6 @@ module _ (κ : Lft) where
   L = T′.the-laws (α κ)
 
   -- what the line owns, and what the reader owns
-  abbrev pub line-val : Reader → Val
-  line-val h = sliceVal (h .line .ptr) (length (h .line .now))
-
   abbrev pub Line : Reader → Fml
   Line h = ShrSlice (named 0) κ u8 .own (h .line) (line-val h ∷ [])
 

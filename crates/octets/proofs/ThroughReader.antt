@@ -154,7 +154,7 @@ module _ (K : Read) where
       passed = (h .line, (h .at, tt))
 
       abbrev passed-at : List Val × (List Val × Unit {0})
-      passed-at = (line-val κ′ h ∷ [], (vint w64 (h .at) ∷ [], tt))
+      passed-at = (line-val h ∷ [], (vint w64 (h .at) ∷ [], tt))
 
       abbrev goes-to : From Q 𝓤 H A .Ghost
       goes-to = (((κ′, tt), (q′, tt), tt, passed, passed-at), tt)
@@ -266,7 +266,7 @@ module _ (K : Read) where
       a = (s, (n, tt))
 
       abbrev a-at : List Val × (List Val × Unit {0})
-      a-at = (line-val κ h ∷ [], (vint w64 n ∷ [], tt))
+      a-at = (line-val h ∷ [], (vint w64 n ∷ [], tt))
 
       abbrev PlainPost : Val → SProp 𝓤
       PlainPost = walkOf 𝓤 H A plain-ended plain-stayed (plain-clauses 𝓤 ensures) .post (((κ, tt), (q, tt), tt, a, a-at), tt)
@@ -299,15 +299,15 @@ module _ (K : Read) where
           move ! (1 ∷ []) $ frame ! $ nothing ! $ owned ! usize (Is usize) (uint-makes 𝓤 H A W w64) n _ (refl, fits) $ fjoin ! $ move ! (2 ∷ 0 ∷ []) $ fjoin ! $ frame ! $ done !
 
       module _ (C : Calls 𝓤 H) (Λ : Loops 𝓤 H) (fm : FmC 𝓤 H (W .laws) C) (step : Name) (known : Triple 𝓤 (C step) (Through E Φ 𝓤 H A)) where
-        plain-walk : Is (ShrSlice (named 0) κ u8) s (line-val κ h ∷ []) → ent 𝓤 (onEntry 𝓤 H A plain-signature (κ, tt) (q, tt) a a-at) (WpFn 𝓤 H C Λ (plain-function step) (line-val κ h ∷ vint w64 n ∷ []) PlainPost)
+        plain-walk : Is (ShrSlice (named 0) κ u8) s (line-val h ∷ []) → ent 𝓤 (onEntry 𝓤 H A plain-signature (κ, tt) (q, tt) a a-at) (WpFn 𝓤 H C Λ (plain-function step) (line-val h ∷ vint w64 n ∷ []) PlainPost)
         plain-walk p =
-            qed W (Whole ∷ ‵ (owns (ShrSlice (named 0) κ u8 ∷ usize ∷ []) a a-at) ∷ []) ∵ enter ! C Λ (plain-function step) (line-val κ h ∷ vint w64 n ∷ []) _ $
+            qed W (Whole ∷ ‵ (owns (ShrSlice (named 0) κ u8 ∷ usize ∷ []) a a-at) ∷ []) ∵ enter ! C Λ (plain-function step) (line-val h ∷ vint w64 n ∷ []) _ $
             alloc1 ! (λ l₀. alloc1 ! (λ l₁. alloc1 ! (λ l₂. alloc1 ! (λ l₃. alloc1 ! (λ l₄. alloc0 ! $ params1 ! $
-            pass1 ! (init ! 6 refl (shr-slice-lawful 𝓤 H A W (named 0) κ u8 .typed s (line-val κ h ∷ []) p .0)) $ pass1 ! (init ! 4 refl (tt, record { fits = fits })) $ pass0 ! $
+            pass1 ! (init ! 6 refl (shr-slice-lawful 𝓤 H A W (named 0) κ u8 .typed s (line-val h ∷ []) p .0)) $ pass1 ! (init ! 4 refl (tt, record { fits = fits })) $ pass0 ! $
             -- [_4; …; _3; …; _2; …; _1; …; room for _0; …; the token; what the parameters own]
             assigns ! (agg ! (and-then ! (load ! (from ! (stop !)) (look ! 6 refl)) (and-then ! (load ! (from ! (stop !)) (look ! 4 refl)) (no-more !)))) (from ! (stop !)) (init ! 2 refl (made κ 𝓤 H A W h p fits)) $
             assigns ! (addr ! (from ! (stop !))) (from ! (stop !)) (init ! 0 refl (tt, tt)) $
-            move ! (11 ∷ []) $ fsplit ! $ use1 W (‵ (Line κ h) ⊛ ‵ (Line κ h)) (shr-slice-copy 𝓤 H A W (named 0) κ u8 .twice s (line-val κ h ∷ [])) $ split ! $
+            move ! (11 ∷ []) $ fsplit ! $ use1 W (‵ (Line κ h) ⊛ ‵ (Line κ h)) (shr-slice-copy 𝓤 H A W (named 0) κ u8 .twice s (line-val h ∷ [])) $ split ! $
             -- [what the line owns; the same; what the number owns; _4; …; _3; …; _2; …; _1; …; room for _0; …; the token]
             move ! (5 ∷ 0 ∷ []) $ use2 W (‵ (partAt (B κ) fullShare h l₃ 0)) (lies-in κ 𝓤 H A W h l₃ fits) $
             move ! (12 ∷ []) $ split ! $ move ! (2 ∷ 0 ∷ []) $ lends-reader ! tt κ q h l₃ (λ ν δ.

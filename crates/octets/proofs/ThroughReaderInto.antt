@@ -179,7 +179,7 @@ module _ (K : Read) where
       passed = (h .line, (h .at, (out, tt)))
 
       abbrev passed-at : List Val × (List Val × (List Val × Unit {0}))
-      passed-at = (line-val κ′ h ∷ [], (vint w64 (h .at) ∷ [], (v ∷ [], tt)))
+      passed-at = (line-val h ∷ [], (vint w64 (h .at) ∷ [], (v ∷ [], tt)))
 
       abbrev goes-to : From Q 𝓤 H A .Ghost
       goes-to = (((κ′, (κ″, tt)), (q′, (q″, tt)), tt, passed, passed-at), tt)
@@ -305,7 +305,7 @@ module _ (K : Read) where
       a = (s, (n, (buf, tt)))
 
       abbrev a-at : List Val × (List Val × (List Val × Unit {0}))
-      a-at = (line-val κ h ∷ [], (vint w64 n ∷ [], (buf-val ∷ [], tt)))
+      a-at = (line-val h ∷ [], (vint w64 n ∷ [], (buf-val ∷ [], tt)))
 
       abbrev PlainPost : Val → SProp 𝓤
       PlainPost = walkOf 𝓤 H A plain-ended plain-stayed (plain-clauses 𝓤 ensures) .post (((κ, (κ′, tt)), (q, (q′, tt)), tt, a, a-at), tt)
@@ -339,18 +339,18 @@ module _ (K : Read) where
           move ! (1 ∷ []) $ frame ! $ nothing ! $ move ! (2 ∷ 0 ∷ []) $ fjoin ! $ owned ! usize (Is usize) (uint-makes 𝓤 H A W w64) n _ (refl, fits) $ fjoin ! $ move ! (2 ∷ 0 ∷ []) $ fjoin ! $ frame ! $ done !
 
       module _ (C : Calls 𝓤 H) (Λ : Loops 𝓤 H) (fm : FmC 𝓤 H (W .laws) C) (step : Name) (known : Triple 𝓤 (C step) (Through E Φ 𝓤 H A)) where
-        plain-walk : Is (ShrSlice (named 0) κ u8) s (line-val κ h ∷ []) → Is (MutSlice (named 1) κ′ u8) buf (buf-val ∷ [])
-            → ent 𝓤 (onEntry 𝓤 H A plain-signature (κ, (κ′, tt)) (q, (q′, tt)) a a-at) (WpFn 𝓤 H C Λ (plain-function step) (line-val κ h ∷ vint w64 n ∷ buf-val ∷ []) PlainPost)
+        plain-walk : Is (ShrSlice (named 0) κ u8) s (line-val h ∷ []) → Is (MutSlice (named 1) κ′ u8) buf (buf-val ∷ [])
+            → ent 𝓤 (onEntry 𝓤 H A plain-signature (κ, (κ′, tt)) (q, (q′, tt)) a a-at) (WpFn 𝓤 H C Λ (plain-function step) (line-val h ∷ vint w64 n ∷ buf-val ∷ []) PlainPost)
         plain-walk p p′ =
-            qed W (Whole ∷ ‵ (owns (ShrSlice (named 0) κ u8 ∷ usize ∷ MutSlice (named 1) κ′ u8 ∷ []) a a-at) ∷ []) ∵ enter ! C Λ (plain-function step) (line-val κ h ∷ vint w64 n ∷ buf-val ∷ []) _ $
+            qed W (Whole ∷ ‵ (owns (ShrSlice (named 0) κ u8 ∷ usize ∷ MutSlice (named 1) κ′ u8 ∷ []) a a-at) ∷ []) ∵ enter ! C Λ (plain-function step) (line-val h ∷ vint w64 n ∷ buf-val ∷ []) _ $
             alloc1 ! (λ l₀. alloc1 ! (λ l₁. alloc1 ! (λ l₂. alloc1 ! (λ l₃. alloc1 ! (λ l₄. alloc1 ! (λ l₅. alloc1 ! (λ l₆. alloc1 ! (λ l₇. alloc0 ! $ params1 ! $
-            pass1 ! (init ! 12 refl (shr-slice-lawful 𝓤 H A W (named 0) κ u8 .typed s (line-val κ h ∷ []) p .0)) $ pass1 ! (init ! 10 refl (tt, record { fits = fits })) $ pass1 ! (init ! 8 refl (mut-slice-lawful 𝓤 H A W (named 1) κ′ u8 .typed buf (buf-val ∷ []) p′ .0)) $ pass0 ! $
+            pass1 ! (init ! 12 refl (shr-slice-lawful 𝓤 H A W (named 0) κ u8 .typed s (line-val h ∷ []) p .0)) $ pass1 ! (init ! 10 refl (tt, record { fits = fits })) $ pass1 ! (init ! 8 refl (mut-slice-lawful 𝓤 H A W (named 1) κ′ u8 .typed buf (buf-val ∷ []) p′ .0)) $ pass0 ! $
             -- [_7; …; _6; …; _5; …; _4; …; _3; …; _2; …; _1; …; room for _0; …; the tokens; what the parameters own]
             assigns ! (agg ! (and-then ! (load ! (from ! (stop !)) (look ! 12 refl)) (and-then ! (load ! (from ! (stop !)) (look ! 10 refl)) (no-more !)))) (from ! (stop !)) (init ! 6 refl (made κ 𝓤 H A W h p fits)) $
             assigns ! (addr ! (from ! (stop !))) (from ! (stop !)) (init ! 4 refl (tt, tt)) $
             assigns ! (addr ! (from ! (fld ! refl (hop ! (look-in ! 8 (sub ! 0 refl (whole !))) (stop !))))) (from ! (stop !)) (init ! 2 refl (tt, tt)) $
             assigns ! (agg ! (and-then ! (load ! (from ! (stop !)) (look ! 2 refl)) (and-then ! (load ! (from ! (fld ! refl (stop !))) (look-in ! 8 (sub ! 1 refl (whole !)))) (no-more !)))) (from ! (stop !)) (init ! 0 refl (tt, (tt, (record { fits = p′ .0 .1 .0 }, tt)))) $
-            move ! (17 ∷ []) $ fsplit ! $ use1 W (‵ (Line κ h) ⊛ ‵ (Line κ h)) (shr-slice-copy 𝓤 H A W (named 0) κ u8 .twice s (line-val κ h ∷ [])) $ split ! $ move ! (2 ∷ []) $ fsplit ! $ drop ! $
+            move ! (17 ∷ []) $ fsplit ! $ use1 W (‵ (Line κ h) ⊛ ‵ (Line κ h)) (shr-slice-copy 𝓤 H A W (named 0) κ u8 .twice s (line-val h ∷ [])) $ split ! $ move ! (2 ∷ []) $ fsplit ! $ drop ! $
             -- [what the buffer owns; what the line owns; the same; _7; …; _6; …; _5; …; _4; …; _3; …; _2; …; _1; …; room for _0; …; the tokens]
             move ! (9 ∷ 1 ∷ []) $ use2 W (‵ (partAt (B κ) fullShare h l₄ 0)) (lies-in κ 𝓤 H A W h l₄ fits) $
             move ! (18 ∷ []) $ split ! $ move ! (2 ∷ 0 ∷ []) $ lends-reader ! tt κ q h l₄ (λ ν δ.

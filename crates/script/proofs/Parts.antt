@@ -1,5 +1,5 @@
 -- Where the parts of a script line stand. Assumes nothing.
-use mathlib.Core.Path.{_≡_, refl, sym, _∙_, ap}
+use mathlib.Core.Path.{_≡_, refl, sym, _∙_}
 use mathlib.Core.Bool.{Bool, true, false, cond}
 use mathlib.Core.List.{List}
 use Prim.Native.Nat.{ℕ, suc, _+_, _-_, _≤_}
@@ -9,7 +9,7 @@ use lib.ListN.{length, take, drop, length-take, length-drop}
 use lib.Seq.{drop-drop, take-length, slice}
 use Rattle.octets.specs.Ascii.{space}
 use Rattle.octets.specs.Lists.{before, after}
-use Rattle.octets.proofs.Lists.{cut}
+use Rattle.octets.proofs.Lists.{cut, to-end}
 use Rattle.octets.proofs.Words.{after-drop, before-take, length-before}
 use Rattle.script.specs.declared.word.Word.the-variants as Words
 use Rattle.script.specs.Command.{digitsOf, fitting, numbered, arguments, call}
@@ -21,10 +21,6 @@ use Rattle.script.specs.Kept.{extended, added}
 use Rattle.script.specs.declared.kept.Rest.{Rest}
 use Rattle.script.specs.declared.kept.Kept.{Kept}
 use Rattle.script.specs.declared.word.Word.{Word}
-
--- the end of a line from an index on
-pub slice-end : (from : ℕ) (l : List ℕ) → slice from (length l) l ≡ drop from l
-slice-end from l = ap (drop from) (take-length l)
 
 -- what fits into the room that is left
 pub slice-most : (room : ℕ) (l : List ℕ) → length (slice 0 room l) ≤ room
@@ -69,7 +65,7 @@ fitting-at Words.Unknown t at r = refl
 -- the arguments of a word
 module _ (w : Word) (t : List ℕ) (at to : ℕ) (r : Rest) (e : to ≡ at + length (digitsOf w (drop at t))) where
   fits-at : (b : Bool) → b ≡ fitting w (slice (to + 1) (length t) t) r → fitting w (after space (drop at t)) r ≡ b
-  fits-at b f = sym (f ∙ rw (slice-end (to + 1) t, e) (fitting-at w t at r))
+  fits-at b f = sym (f ∙ rw (to-end (to + 1) t, e) (fitting-at w t at r))
 
   pub unfit : fitting w (slice (to + 1) (length t) t) r ≡ false → Unreadable ≡ arguments w at (drop at t) r
   unfolding arguments
@@ -92,4 +88,4 @@ called t to r w e f =
 -- a line with more octets after it
 pub more-kept : (k : Kept) (more b fits over : List ℕ) (room : ℕ) (r : Rest) → room ≡ length b - k .length → fits ≡ slice 0 room more → over ≡ slice room (length more) more
     → r ≡ extended (k .rest) over → record { length = k .length + length fits; rest = r } ≡ added k more (length b)
-more-kept k more b fits over room r e f g h = rw (h, g, slice-end room more, f, e)
+more-kept k more b fits over room r e f g h = rw (h, g, to-end room more, f, e)
