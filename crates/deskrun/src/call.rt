@@ -20,7 +20,7 @@ use umbrelnic::umbrelnic_who;
 const HEX: usize = 16384;
 
 // Makes the call of a script line, and gives what is to be printed. The buffers are those that calls are lent; a name goes to the reply buffer.
-pub fn run(
+pub(crate) fn run(
     image: &mut [u8],
     text: &[u8],
     command: Command,

@@ -15,7 +15,7 @@ struct State {
 }
 
 // Runs each line that ends in a block and gives the one that the block ends in.
-pub fn run_block(
+pub(crate) fn run_block(
     image: &mut [u8],
     line: &mut [u8],
     kept: Kept,
@@ -40,7 +40,7 @@ pub fn run_block(
 }
 
 // A last line without LF is run.
-pub fn run_last(image: &mut [u8], line: &[u8], kept: Kept, out: &mut [u8]) {
+pub(crate) fn run_last(image: &mut [u8], line: &[u8], kept: Kept, out: &mut [u8]) {
     if 0 < kept.length {
         let at = run_line(image, line, kept, out, 0);
         flush(out, at);

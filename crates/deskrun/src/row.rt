@@ -11,7 +11,7 @@ use umbrelnic::Said;
 
 // A length is that of the text which stands in a buffer: of an address in the answer buffer, of a reply, which is printed without its CRLF, and
 // of a name in the reply buffer.
-pub enum Row {
+pub(crate) enum Row {
     Unreadable,
     Opened(u64),
     Pass,
@@ -27,7 +27,7 @@ pub enum Row {
     Refused(u64),
 }
 
-pub fn of_open(opened: Opened) -> Row
+pub(crate) fn of_open(opened: Opened) -> Row
     ensures { λ r. ⌜ r ≡ openRow opened ⌝ }
 {
     if opened.refusal != 0 {
@@ -36,7 +36,7 @@ pub fn of_open(opened: Opened) -> Row
     Row::Opened(opened.connection)
 }
 
-pub fn of_line(a: LineAnswer) -> Row
+pub(crate) fn of_line(a: LineAnswer) -> Row
     ensures { λ r. ⌜ r ≡ lineRow a ⌝ }
 {
     if a.refusal != 0 {
@@ -81,7 +81,7 @@ fn of_query(a: LineAnswer) -> Row
     }
 }
 
-pub fn of_verdict(said: Said) -> Row
+pub(crate) fn of_verdict(said: Said) -> Row
     ensures { λ r. ⌜ r ≡ verdictRow said ⌝ }
 {
     if said.refusal != 0 {
@@ -92,7 +92,7 @@ pub fn of_verdict(said: Said) -> Row
     }
 }
 
-pub fn of_who(borne: Borne) -> Row
+pub(crate) fn of_who(borne: Borne) -> Row
     ensures { λ r. ⌜ r ≡ whoRow borne ⌝ }
 {
     if borne.refusal != 0 {
@@ -107,7 +107,7 @@ pub fn of_who(borne: Borne) -> Row
 }
 
 // Mail ended, and close.
-pub fn of_done(refusal: u64) -> Row
+pub(crate) fn of_done(refusal: u64) -> Row
     ensures { λ r. ⌜ r ≡ doneRow refusal ⌝ }
 {
     if refusal != 0 {

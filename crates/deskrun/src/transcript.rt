@@ -11,12 +11,12 @@ use octets::Encoded;
 const LONGEST: usize = 16384;
 
 // Writes what out has before an index to standard output.
-pub fn flush(out: &[u8], at: usize) {
+pub(crate) fn flush(out: &[u8], at: usize) {
     io::write_all(STDOUT_FILENO, octets::part(out, 0, at));
 }
 
 // An index from which on out has room for any line of a transcript.
-pub fn with_room(out: &[u8], at: usize) -> usize {
+pub(crate) fn with_room(out: &[u8], at: usize) -> usize {
     if out.len() < LONGEST {
         return at;
     }
@@ -93,7 +93,7 @@ fn first(buffer: &[u8], length: u64) -> &[u8] {
 }
 
 // A line of the transcript, with the buffers that its call left.
-pub fn row(out: &mut [u8], at: usize, row: Row, reply: &[u8], answer: &[u8]) -> usize {
+pub(crate) fn row(out: &mut [u8], at: usize, row: Row, reply: &[u8], answer: &[u8]) -> usize {
     match row {
         Row::Unreadable => word(out, at, b"unreadable"),
         Row::Opened(n) => numbered(out, at, b"opened ", n),

@@ -23,11 +23,11 @@ use crate::sizes::CONNECTION;
 use crate::sizes::HEADER;
 use crate::sizes::MECHANISM;
 use crate::sizes::MOST_CONNECTIONS;
-use crate::sizes::MOST_MECHANISMS;
 use crate::sizes::SERVER_MECHANISMS;
 use crate::sizes::SERVER_SLOTS;
 use crate::sizes::SLOT;
 use server::Header;
+use server::MOST_MECHANISMS;
 
 pub(crate) fn header_fits(image: &[u8]) -> bool
     requires { ⌜ length (now image) ≡ imageSize ⌝ }

@@ -5,6 +5,7 @@ ghost use lib.ListN.{length, getD, replicate};
 ghost use Rattle.codec.specs.Codec.{octet, putOctet, putNumber, getNumber, getArray, bit, isOne};
 ghost use Rattle.codec.specs.Stored.{stored};
 ghost use Rattle.codec.specs.InPlace.{standsAt};
+use crate::sizes::NUMBER;
 
 // An octet, as a number to compute with.
 pub(crate) fn octet_at(image: &[u8], at: usize) -> u64
@@ -34,7 +35,7 @@ pub(crate) fn write_number(image: &mut [u8], at: usize, number: u64)
 {
     let mut rest = number;
     let mut i = 0;
-    while i < 8 {
+    while i < NUMBER {
         image[at + i] = (rest % 256) as u8;
         rest = rest / 256;
         i += 1;

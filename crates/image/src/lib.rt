@@ -6,6 +6,7 @@ ghost use Rattle.server.specs.Slots.{isNumbered, isWaiting, isFree, holding};
 ghost use Rattle.image.specs.InPlace.{isTaken, hasSlot, hasRecord, slotFound, headerRead, mechanismsRead, connectionRead, headerWritten, mechanismWritten, slotWritten, freshWritten};
 use server::Connection;
 use server::Header;
+use server::MOST_MECHANISMS;
 use server::Mechanism;
 use server::Mechanisms;
 use sizes::CONNECTION;
@@ -22,8 +23,6 @@ mod records;
 mod sizes;
 mod slots;
 mod unique;
-
-pub use sizes::MOST_MECHANISMS;
 
 // How many octets an image has.
 pub const OCTETS: usize = SERVER_SLOTS + MOST_CONNECTIONS * SLOT;

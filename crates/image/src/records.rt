@@ -19,17 +19,20 @@ use crate::leaves::write_number;
 use crate::leaves::write_octet;
 use crate::leaves::write_octets;
 use crate::sizes::CONNECTION_SESSION;
+use crate::sizes::HEADER_SEALED;
+use crate::sizes::HEADER_TICKET;
 use crate::sizes::MECHANISM;
-use crate::sizes::MECHANISM_NAME;
-use crate::sizes::MOST_MECHANISMS;
-use crate::sizes::NAME;
+use crate::sizes::MECHANISM_CLIENT_FIRST;
+use crate::sizes::MECHANISM_NEEDS_PROTECTION;
 use crate::sizes::SERVER_MECHANISMS;
 use crate::sizes::SESSION_NAME;
 use crate::sizes::SESSION_PHASE;
 use crate::sizes::SLOT;
+use lines::mechanism::LONGEST_MECHANISM;
 use profile::Profile;
 use server::Connection;
 use server::Header;
+use server::MOST_MECHANISMS;
 use server::Mechanism;
 use server::Mechanisms;
 use session::Phase;
@@ -127,7 +130,7 @@ pub(crate) fn read_session(image: &[u8], at: usize) -> Session
     requires { ⌜ at + sessionSize ≤ length (now image) ⌝ }
     ensures { λ r. ⌜ r ≡ Layout.session .get (now (image .entry)) at ⌝ }
 {
-    let mut name = [0u8; NAME];
+    let mut name = [0u8; Session::LONGEST_NAME];
     read_octets(image, at + SESSION_NAME, &mut name);
     Session {
         name,
@@ -139,7 +142,7 @@ pub(crate) fn read_session(image: &[u8], at: usize) -> Session
     }
 }
 
-fn write_name(image: &mut [u8], at: usize, name: [u8; NAME])
+fn write_name(image: &mut [u8], at: usize, name: [u8; Session::LONGEST_NAME])
     requires { ⌜ at + longestName ≤ length (now image) ⌝ }
     ensures { λ _. ⌜ now (image .exit) ≡ stored (now (image .entry)) at (putArray octet longestName name) ⌝ }
 {
@@ -205,12 +208,12 @@ pub(crate) fn read_mechanism(image: &[u8], at: usize) -> Mechanism
     requires { ⌜ at + mechanismSize ≤ length (now image) ⌝ }
     ensures { λ r. ⌜ r ≡ Layout.mechanism .get (now (image .entry)) at ⌝ }
 {
-    let mut name = [0u8; MECHANISM_NAME];
+    let mut name = [0u8; LONGEST_MECHANISM];
     read_octets(image, at, &mut name);
     Mechanism {
         name,
-        client_first: read_flag(image, at + 20),
-        needs_protection: read_flag(image, at + 21),
+        client_first: read_flag(image, at + MECHANISM_CLIENT_FIRST),
+        needs_protection: read_flag(image, at + MECHANISM_NEEDS_PROTECTION),
     }
 }
 
@@ -220,8 +223,12 @@ pub(crate) fn write_mechanism(image: &mut [u8], at: usize, mechanism: Mechanism)
 {
     let name = mechanism.name;
     write_octets(image, at, &name);
-    write_flag(image, at + 20, mechanism.client_first);
-    write_flag(image, at + 21, mechanism.needs_protection);
+    write_flag(image, at + MECHANISM_CLIENT_FIRST, mechanism.client_first);
+    write_flag(
+        image,
+        at + MECHANISM_NEEDS_PROTECTION,
+        mechanism.needs_protection,
+    );
 }
 
 // The table of mechanisms of an image.
@@ -249,8 +256,8 @@ pub(crate) fn read_header(image: &[u8], at: usize) -> Header
 {
     Header {
         connection: read_number(image, at),
-        ticket: read_number(image, at + 8),
-        sealed: read_flag(image, at + 16),
+        ticket: read_number(image, at + HEADER_TICKET),
+        sealed: read_flag(image, at + HEADER_SEALED),
     }
 }
 
@@ -259,6 +266,6 @@ pub(crate) fn write_header(image: &mut [u8], at: usize, header: Header)
     ensures { λ _. ⌜ now (image .exit) ≡ stored (now (image .entry)) at (Layout.header .put header) ⌝ }
 {
     write_number(image, at, header.connection);
-    write_number(image, at + 8, header.ticket);
-    write_flag(image, at + 16, header.sealed);
+    write_number(image, at + HEADER_TICKET, header.ticket);
+    write_flag(image, at + HEADER_SEALED, header.sealed);
 }

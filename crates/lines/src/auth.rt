@@ -5,6 +5,7 @@ ghost use lib.ListN.{length, drop};
 ghost use Rattle.base64.specs.Base64.{decoded, decodedInto};
 ghost use Rattle.lines.specs.Mechanism.{padded};
 ghost use Rattle.lines.specs.Auth.{auth, initial, initialText, nameText};
+use crate::mechanism::LONGEST_MECHANISM;
 use crate::mechanism::is_mechanism;
 use crate::mechanism::name_of;
 use octets::Decoded;
@@ -69,7 +70,7 @@ fn read_initial(line: &[u8], to: usize) -> Auth
 }
 
 // The name that a reading of a line points to, in twenty octets.
-pub fn name_at(line: &[u8], found: Auth) -> [u8; 20]
+pub fn name_at(line: &[u8], found: Auth) -> [u8; LONGEST_MECHANISM]
     ensures { λ r. ⌜ r ≡ padded (nameText found (now (line .entry))) ⌝ }
 {
     match found {

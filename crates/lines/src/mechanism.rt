@@ -4,6 +4,9 @@ ghost use mathlib.Core.Bool.{_&&_};
 ghost use Rattle.octets.specs.Lists.{same, before};
 ghost use Rattle.lines.specs.Mechanism.{mechChar, mechanism, padded};
 
+// A name has at most so many octets, and is kept in as many.
+pub const LONGEST_MECHANISM: usize = 20;
+
 // Whether an octet may stand in a mechanism's name.
 fn is_mech_char(x: u8) -> bool
     ensures { λ r. ⌜ r ≡ mechChar x ⌝ }
@@ -18,7 +21,7 @@ pub fn is_mechanism(name: &[u8]) -> bool
     if name.len() < 1 {
         return false;
     }
-    if 20 < name.len() {
+    if LONGEST_MECHANISM < name.len() {
         return false;
     }
     let mut i: usize = 0;
@@ -32,21 +35,21 @@ pub fn is_mechanism(name: &[u8]) -> bool
 }
 
 // A name in twenty octets, padded with NUL. A longer text, which is no name, is cut.
-pub fn name_of(name: &[u8]) -> [u8; 20]
+pub fn name_of(name: &[u8]) -> [u8; LONGEST_MECHANISM]
     ensures { λ r. ⌜ r ≡ padded (now (name .entry)) ⌝ }
 {
-    let mut kept: [u8; 20] = [0; 20];
-    octets::write(octets::part(name, 0, 20), &mut kept, 0);
+    let mut kept = [0u8; LONGEST_MECHANISM];
+    octets::write(octets::part(name, 0, LONGEST_MECHANISM), &mut kept, 0);
     kept
 }
 
 // Whether twenty octets are a name, padded with NUL: after the first, each is NUL or an octet of a name that comes after no NUL.
-pub fn is_padded_name(name: [u8; 20]) -> bool
+pub fn is_padded_name(name: [u8; LONGEST_MECHANISM]) -> bool
     ensures { λ r. ⌜ r ≡ (mechanism (before 0 name) && same name (padded (before 0 name))) ⌝ }
 {
     let mut ok = is_mech_char(name[0]);
     let mut i: usize = 1;
-    while i < 20 {
+    while i < LONGEST_MECHANISM {
         ok = ok & ((name[i] == 0) | is_mech_char(name[i]) & (name[i - 1] != 0));
         i += 1;
     }
@@ -54,7 +57,7 @@ pub fn is_padded_name(name: [u8; 20]) -> bool
 }
 
 // Whether two names are the same.
-pub fn same_name(a: [u8; 20], b: [u8; 20]) -> bool
+pub fn same_name(a: [u8; LONGEST_MECHANISM], b: [u8; LONGEST_MECHANISM]) -> bool
     ensures { λ r. ⌜ r ≡ same a b ⌝ }
 {
     octets::same(&a, &b)

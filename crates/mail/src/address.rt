@@ -9,7 +9,7 @@ use xtext::Character;
 
 // What the octets read so far are: none; "<"; "<>"; others, with no "@" that has an octet before and after it; such with an "@" at the end
 // that has one before it; an address.
-pub enum State {
+pub(crate) enum State {
     Start,
     Less,
     Null,
@@ -19,14 +19,14 @@ pub enum State {
 }
 
 // What a value stands for, with where it ends and an address's length. Malformed: neither of the two.
-pub enum Judged {
+pub(crate) enum Judged {
     Malformed,
     Null { end: usize },
     Address { end: usize, length: usize },
 }
 
 // Whether the line, or what stands before a space, ends at an index.
-pub fn is_end(line: &[u8], i: usize) -> bool
+pub(crate) fn is_end(line: &[u8], i: usize) -> bool
     ensures { λ r. ⌜ r ≡ spaced (drop i (now (line .entry))) ⌝ }
 {
     if line.len() <= i {
@@ -95,7 +95,7 @@ fn at_end(s: State, n: usize, end: usize) -> Judged
 }
 
 // Reads the value from an index on up to a space or the line's end. A space is no character of xtext.
-pub fn judge(line: &[u8], from: usize) -> Judged
+pub(crate) fn judge(line: &[u8], from: usize) -> Judged
     ensures { λ r. ⌜ r ≡ judged (from + length (before space (drop from (now (line .entry))))) (before space (drop from (now (line .entry)))) ⌝ }
 {
     let mut s = State::Start;

@@ -12,7 +12,7 @@ use crate::address::judge;
 
 // A parameter and where it ends: AUTH with "<>"; AUTH with an address, whose xtext stands at these indices and decodes to so many octets;
 // SUBMITTER; any other. Malformed: what stands there is none of these.
-pub enum Parameter {
+pub(crate) enum Parameter {
     Malformed,
     Other {
         end: usize,
@@ -37,7 +37,7 @@ enum Class {
 }
 
 // Reads the parameter at index i.
-pub fn read(line: &[u8], i: usize) -> Parameter
+pub(crate) fn read(line: &[u8], i: usize) -> Parameter
     ensures { λ r. ⌜ r ≡ read i (before space (drop i (now (line .entry)))) ⌝ }
 {
     if line.len() <= i {

@@ -8,7 +8,7 @@ use crate::Reply;
 use octets::Encoded;
 use octets::write;
 
-pub fn smtp(event: Reply, out: &mut [u8]) -> Encoded
+pub(crate) fn smtp(event: Reply, out: &mut [u8]) -> Encoded
     ensures { λ r. ⌜ (r ≡ encoded (reply Profile.Smtp event) (length (now (out .entry))) 0) × (now (out .exit) ≡ written (now (out .entry)) 0 (reply Profile.Smtp event)) ⌝ }
 {
     match event {
@@ -27,7 +27,7 @@ pub fn smtp(event: Reply, out: &mut [u8]) -> Encoded
     }
 }
 
-pub fn pop3(event: Reply, out: &mut [u8]) -> Encoded
+pub(crate) fn pop3(event: Reply, out: &mut [u8]) -> Encoded
     ensures { λ r. ⌜ (r ≡ encoded (reply Profile.Pop3 event) (length (now (out .entry))) 0) × (now (out .exit) ≡ written (now (out .entry)) 0 (reply Profile.Pop3 event)) ⌝ }
 {
     match event {

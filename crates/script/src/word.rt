@@ -3,7 +3,7 @@ ghost use mathlib.Core.Path.{_≡_};
 ghost use Rattle.script.specs.Word.{wordOf, bareWordOf, takesText, hasData};
 use profile::numbers::Verdict;
 
-pub enum Word {
+pub(crate) enum Word {
     Line,
     Hexline,
     Verdict(Verdict),
@@ -14,7 +14,7 @@ pub enum Word {
 }
 
 // The word that a text is.
-pub fn word_of(text: &[u8]) -> Word
+pub(crate) fn word_of(text: &[u8]) -> Word
     ensures { λ r. ⌜ r ≡ wordOf (now (text .entry)) ⌝ }
 {
     if octets::same(text, b"line") {
@@ -61,7 +61,7 @@ fn bare_word_of(text: &[u8]) -> Word
 }
 
 // Whether a text may follow the number.
-pub fn takes_text(word: Word) -> bool
+pub(crate) fn takes_text(word: Word) -> bool
     ensures { λ r. ⌜ r ≡ takesText word ⌝ }
 {
     match word {

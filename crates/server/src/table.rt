@@ -4,11 +4,14 @@ ghost use mathlib.Core.Bool.{false, not};
 ghost use Prim.Native.Nat.{_≤_};
 ghost use lib.ListN.{length, drop, replicate};
 ghost use Rattle.octets.specs.Lists.{every, same};
-ghost use Rattle.lines.specs.Mechanism.{padded};
+ghost use Rattle.lines.specs.Mechanism.{longestMechanism, padded};
+ghost use Rattle.server.specs.Limits.{mostMechanisms};
 ghost use Rattle.server.specs.Mechanisms.{listed, offered};
 ghost use Rattle.server.specs.WellFormed.{apart, sameName, mechanismWithin, mechanismsWithin};
+use crate::MOST_MECHANISMS;
 use crate::Mechanism;
 use crate::Mechanisms;
+use lines::mechanism::LONGEST_MECHANISM;
 use lines::mechanism::is_padded_name;
 use lines::mechanism::name_of;
 use lines::mechanism::same_name;
@@ -27,7 +30,7 @@ impl Mechanism {
         }
     }
 
-    pub fn is_named(self, name: [u8; 20]) -> bool
+    pub fn is_named(self, name: [u8; LONGEST_MECHANISM]) -> bool
         ensures { λ r. ⌜ r ≡ same (self .name) name ⌝ }
     {
         let kept = self.name;
@@ -46,28 +49,32 @@ impl Mechanism {
 impl Mechanisms {
     // A table to which none was added.
     pub fn none() -> Mechanisms
-        ensures { λ r. ⌜ r ≡ record { records = replicate 8 (record { name = replicate 20 0; «client_first» = false; «needs_protection» = false }); count = 0 } ⌝ }
+        ensures { λ r. ⌜ r ≡ record { records = replicate mostMechanisms (record { name = replicate longestMechanism 0; «client_first» = false; «needs_protection» = false }); count = 0 } ⌝ }
     {
         let unset = Mechanism {
-            name: [0; 20],
+            name: [0; LONGEST_MECHANISM],
             client_first: false,
             needs_protection: false,
         };
         Mechanisms {
-            records: [unset; 8],
+            records: [unset; MOST_MECHANISMS],
             count: 0,
         }
     }
 
     // How many mechanisms there are. The table has eight, so a count above lists them all.
     fn len(self) -> usize
-        ensures { λ r. ⌜ (r ≡ length (listed self)) × (r ≤ 8) ⌝ }
+        ensures { λ r. ⌜ (r ≡ length (listed self)) × (r ≤ mostMechanisms) ⌝ }
     {
-        if self.count < 8 { self.count } else { 8 }
+        if self.count < MOST_MECHANISMS {
+            self.count
+        } else {
+            MOST_MECHANISMS
+        }
     }
 
     // What there is of the mechanism with this name.
-    pub fn offer(self, name: [u8; 20]) -> Offer
+    pub fn offer(self, name: [u8; LONGEST_MECHANISM]) -> Offer
         ensures { λ r. ⌜ r ≡ offered (listed self) name ⌝ }
     {
         let end = self.len();

@@ -10,7 +10,7 @@ use profile::numbers::Identity;
 use profile::numbers::Refusal;
 
 // What a step makes of a session, but for its name, and what it gives.
-pub struct Change {
+pub(crate) struct Change {
     pub greeted: bool,
     pub transaction: bool,
     pub phase: Phase,

@@ -41,7 +41,7 @@ pub enum Phase {
 
 // A connection's session. The name is padded with NUL; where nobody is signed in it is NUL alone.
 pub struct Session {
-    pub name: [u8; 64],
+    pub name: [u8; Session::LONGEST_NAME],
     pub profile: Profile,
     pub protected: bool,
     pub greeted: bool,
@@ -72,7 +72,7 @@ impl Session {
         ensures { λ r. ⌜ r ≡ opened profile protected ⌝ }
     {
         Session {
-            name: [0; 64],
+            name: [0; Session::LONGEST_NAME],
             profile,
             protected,
             greeted: false,

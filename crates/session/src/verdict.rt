@@ -53,11 +53,11 @@ fn has_valid_data(verdict: Verdict, bytes: &[u8]) -> bool
     }
 }
 
-// A name in 64 octets.
-fn padded(name: &[u8]) -> [u8; 64]
+// A name in as many octets as the longest has.
+fn padded(name: &[u8]) -> [u8; Session::LONGEST_NAME]
     ensures { λ r. ⌜ r ≡ paddedTo longestName (now (name .entry)) ⌝ }
 {
-    let mut kept: [u8; 64] = [0; 64];
+    let mut kept = [0u8; Session::LONGEST_NAME];
     octets::write(octets::part(name, 0, Session::LONGEST_NAME), &mut kept, 0);
     kept
 }

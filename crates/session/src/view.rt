@@ -9,6 +9,7 @@ use lines::auth::Auth;
 use lines::auth::decode_initial;
 use lines::auth::name_at;
 use lines::command::Command;
+use lines::mechanism::LONGEST_MECHANISM;
 use lines::response::Response;
 use mail::Mail;
 use octets::Decoded;
@@ -89,7 +90,7 @@ impl View {
     }
 
     // The mechanism that the line names, in twenty octets; NUL alone where it names none.
-    pub fn mechanism(self, line: &[u8]) -> [u8; 20]
+    pub fn mechanism(self, line: &[u8]) -> [u8; LONGEST_MECHANISM]
         ensures { λ r. ⌜ r ≡ padded (mechanismText self (now (line .entry))) ⌝ }
     {
         name_at(line, self.auth())

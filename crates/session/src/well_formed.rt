@@ -10,12 +10,12 @@ use crate::Session;
 use crate::verdict::is_graphic;
 
 // Whether 64 octets are a name, padded with NUL: after the first, each is NUL or an octet of a name that comes after no NUL.
-fn is_padded_name(name: [u8; 64]) -> bool
+fn is_padded_name(name: [u8; Session::LONGEST_NAME]) -> bool
     ensures { λ r. ⌜ r ≡ (isName (before 0 name) && same name (paddedTo longestName (before 0 name))) ⌝ }
 {
     let mut ok = is_graphic(name[0]);
     let mut i: usize = 1;
-    while i < 64 {
+    while i < Session::LONGEST_NAME {
         ok = ok & ((name[i] == 0) | is_graphic(name[i]) & (name[i - 1] != 0));
         i += 1;
     }

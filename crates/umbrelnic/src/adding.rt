@@ -6,9 +6,9 @@ ghost use Rattle.server.specs.Mechanisms.{isPresent};
 ghost use Rattle.calls.specs.Numbers.{refusal};
 ghost use Rattle.calls.specs.Step.{resultIn, imageIn};
 ghost use Rattle.image.specs.InPlace.{isTaken, readServer};
-use image::MOST_MECHANISMS;
 use lines::mechanism::is_mechanism;
 use profile::numbers::Refusal;
+use server::MOST_MECHANISMS;
 use server::Mechanism;
 use session::view::Offer;
 
