@@ -7,6 +7,8 @@ pub use Rattle.lines.proofs.Alikes.{command-line, spaceless}
 pub use Rattle.lines.proofs.Alikes.{initial-text}
 -- what a reading points to is a mechanism's name, and base64 of the length told
 pub use Rattle.lines.proofs.Readings.{name-read, name-read-initial, initial-read, initial-fits, response-read}
+-- what an AUTH line's reading points to is what the line says
+pub use Rattle.lines.proofs.Says.{auth-says}
 -- a command's reading holds that of the MAIL or AUTH line that it is
 pub use Rattle.lines.proofs.Readings.{Holds, command-read}
 -- names of the form are told apart by their twenty octets

@@ -3,6 +3,7 @@ pub mod Lists
 pub mod Names
 pub mod Verbs
 pub mod Auths
+pub mod Says
 pub mod Responses
 pub mod Commands
 pub mod Alikes

@@ -17,12 +17,9 @@ use Rattle.mail.specs.Address.{address}
 use Rattle.mail.specs.Parameter.{equals, named, good, null, AUTH, SUBMITTER, authValue}
 use Rattle.mail.specs.Mail.{space, greater, opens, pathEnds, rest, onto, words, spaced, parameters, count, allGood, said, identity, wellFormed, mailAt, mail, addressText}
 use Rattle.mail.specs.declared.Mail.the-variants.{Malformed, Null, Address}
+use Rattle.mail.specs.Says.{malformed, absent, valueSays, authSays, lineSays, pointsTo}
+use Rattle.mail.specs.Says as Say
 use Rattle.mail.proofs.Whole.{value-drop, value-length, good-auth, rest-drop}
-
--- the whole line, with no index in it
-pub mail-whole : (l : List ℕ) → mail l ≡ cond (wellFormed l) (identity (length l - length (rest l) + 1) (parameters (rest l))) Malformed
-unfolding mail mailAt
-mail-whole l = refl
 
 -- words stand in a line one after the other, the first at index i
 abbrev Placed : List ℕ → ℕ → List (List ℕ) → Type 0
@@ -115,3 +112,38 @@ module _ (l : List ℕ) (from to n : ℕ) (e : mail l ≡ Address from to n) whe
   address-within =
       let t = addressText (Address from to n) l in
       omega (arith, address-read .1, length-octets t, length-drop from (take to l), length-take to l)
+
+-- ---- what a reading points to is what the line's AUTH says
+
+said-says : (l v : List ℕ) (i : ℕ) → slice i (i + length v) l ≡ v → pointsTo (said i v) l ≡ valueSays v
+unfolding said
+said-says l v i e = go (null v)
+  where
+    go : (b : Bool) → pointsTo (cond b Null (Address i (i + length v) (length (Xtext.octets v)))) l ≡ cond b Say.null (Say.address (Xtext.octets v))
+    go true = refl
+    go false = ap (λ (t : List ℕ). Say.address (Xtext.octets t)) e
+
+identity-says : (l : List ℕ) (ws : List (List ℕ)) (i : ℕ) → Placed l i ws → pointsTo (identity i ws) l ≡ authSays ws
+unfolding identity authSays
+identity-says l [] i h = refl
+identity-says l (w ∷ ws) i h =
+    split (named AUTH w)
+    (λ a. rw a (said-says l (after equals w) (i + length AUTH + 1) (value-placed l w i (h .0) a)))
+    (λ a. rw a (identity-says l ws (i + length w + 1) (h .1)))
+
+rest-says : (l r : List ℕ) (j : ℕ) → r ≡ drop j l → pointsTo (identity (length l - length r + 1) (parameters r)) l ≡ authSays (parameters r)
+unfolding identity authSays
+rest-says l [] j g = refl
+rest-says l (x ∷ r) j g =
+    let y : length l - length (x ∷ r) + 1 ≡ j + 1 = omega (arith, ap length g, length-drop j l) in
+    let z : drop (j + 1) l ≡ r = sym (drop-drop 1 j l) ∙ ap (drop 1) (sym g) in
+    rw y (identity-says l (words r) (j + 1) (placed l r (j + 1) z))
+
+-- a reading of a MAIL line points to its AUTH parameter and to no other
+pub mail-says : (l : List ℕ) → pointsTo (mail l) l ≡ lineSays l
+unfolding mail mailAt
+mail-says l = go (wellFormed l)
+  where
+    go : (b : Bool) → pointsTo (cond b (identity (length l - length (rest l) + 1) (parameters (rest l))) Malformed) l ≡ cond b (authSays (parameters (rest l))) malformed
+    go true = rest-says l (rest l) (11 + suc (length (before greater (drop 11 l)))) (rest-drop l)
+    go false = refl

@@ -4,3 +4,4 @@ pub mod Parameter
 pub mod Mail
 pub mod Private
 pub mod Reader
+pub mod Says

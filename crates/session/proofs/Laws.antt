@@ -14,7 +14,7 @@ use Rattle.base64.proofs.Laws.{length-encode}
 use Rattle.profile.specs.Texts.{isChallenge}
 use Rattle.profile.specs.declared.Profile.{Profile}
 use Rattle.profile.specs.declared.Profile.the-variants.{Smtp, Pop3}
-use Rattle.profile.specs.declared.numbers.Identity.the-variants as Identities
+use Rattle.profile.specs.declared.numbers.Identity.{Identity}
 use Rattle.profile.specs.declared.numbers.Refusal.{Refusal}
 use Rattle.profile.specs.declared.numbers.Verdict.{Verdict}
 use Rattle.profile.proofs.Laws.{not-challenge, challenge-begins, reply-length}
@@ -29,18 +29,21 @@ use Rattle.session.specs.declared.Phase.{Phase}
 use Rattle.session.specs.declared.Phase.the-variants as Phases
 use Rattle.session.specs.Answer.{challenge, heard, isChallengeAnswer}
 use Rattle.session.specs.Line.{afterLine}
+use Rattle.session.specs.Mail.{isVouched}
 use Rattle.session.specs.Verdict.{graphic, isName, given, afterVerdict}
 use Rattle.session.specs.MailEnded.{afterMail}
 use Rattle.session.specs.Standing.{quiet, standing, stands, isHeard, isRefused}
 use Rattle.session.specs.Named.{bears, waitsOn, grants}
 use Rattle.session.specs.WellFormed.{nameWithin, wellFormed}
-use Rattle.session.proofs.Makes.{makes}
+use Rattle.session.proofs.Makes.{Vouched, makes}
 pub use Rattle.session.proofs.Within.{session-parts}
 pub use Rattle.session.proofs.Makes.{isOfLine}
 use Rattle.session.proofs.Sound.{sound}
 use Rattle.session.proofs.Judged.{verdicts, heard-or-refused, heard-short}
 -- a step depends on the view of a line alone, and lines that are alike are seen alike
 pub use Rattle.session.proofs.Views.{Seen, same-view}
+-- the octets that a MAIL line hands on are what its AUTH says
+pub use Rattle.session.proofs.Relayed.{line-says}
 -- what an answer says of a line's octets is so
 pub use Rattle.session.proofs.Measures.{line-measures}
 -- "A failed exchange leaves greeting, transaction and name as they were before AUTH."
@@ -64,10 +67,10 @@ module _ (s : Session) (v : View) (o : Offer) (t : ℕ) where
   unfolding afterLine nameOf
   line-bears = ap (λ (b : Bool). cond b (some (nameOf s)) none) (sound (makes s t v o) .signed)
 
-  -- ""<>" if nobody is signed in": an address is relayed for who is
-  pub line-relays : (n : ℕ) → afterLine s v o t .answer ≡ Answers.Forward Identities.Address n → signedIn (s .phase) ≡ true
+  -- an identity other than "<>" is relayed for who is signed in
+  pub line-relays : (i : Identity) (n : ℕ) → isVouched i ≡ true → afterLine s v o t .answer ≡ Answers.Forward i n → signedIn (s .phase) ≡ true
   unfolding afterLine
-  line-relays n e = rw e at (sound (makes s t v o) .relays)
+  line-relays i n h e = let vouched : Vouched (signedIn (s .phase)) i = rw e at (sound (makes s t v o) .relays) in vouched h
 
   -- a line is refused with 3 or 7 alone
   pub line-refusals : (k : Refusal) → afterLine s v o t .answer ≡ Answers.Refused k → isOfLine k ≡ true

@@ -8,4 +8,5 @@ pub mod Challenges
 pub mod Views
 pub mod Measures
 pub mod Exchanges
+pub mod Relayed
 pub mod Laws

@@ -35,7 +35,7 @@ use Rattle.session.specs.Change.{moves, says, refuses, fails}
 use Rattle.session.specs.Limits.{mostChallenges, unissued}
 use Rattle.session.specs.Query.{asks}
 use Rattle.session.specs.Auth.{wrongMoment, available, clientFirst, alone, withInitial, timely, onAuth}
-use Rattle.session.specs.Mail.{relays, begins, onMail}
+use Rattle.session.specs.Mail.{relays, isVouched, begins, onMail}
 use Rattle.session.specs.Command.{onCommand}
 use Rattle.session.specs.Response.{onResponse}
 use Rattle.session.specs.Line.{atRest, awaiting, onLine}
@@ -75,18 +75,9 @@ Told v Identities.Null n = n ≡ 0
 Told v Identities.Absent n = n ≡ 0
 Told v Identities.Address n = addressLength v ≡ some n
 
--- "<>" if nobody is signed in": b, whether somebody is
+-- b: whether somebody is signed in
 abbrev pub Vouched : Bool → Identity → Type 0
-Vouched b Identities.NoMail = Unit {0}
-Vouched b Identities.Null = Unit {0}
-Vouched b Identities.Absent = b ≡ true
-Vouched b Identities.Address = b ≡ true
-
-vouched : (b : Bool) → b ≡ true → (i : Identity) → Vouched b i
-vouched b e Identities.NoMail = tt
-vouched b e Identities.Null = tt
-vouched b e Identities.Absent = e
-vouched b e Identities.Address = e
+Vouched b i = isVouched i ≡ true → b ≡ true
 
 -- 3 and 7: the refusals that a line may get from its session
 abbrev pub isOfLine : Refusal → Bool
@@ -147,8 +138,8 @@ module _ (s : Session) (t : ℕ) where
       where
         go : (b : Bool) → signedIn (s .phase) ≡ b
             → Makes s v t (record { greeted = s .greeted; transaction = true; phase = s .phase; answer = cond b (Answers.Forward i n) (Answers.Forward Identities.Null 0) })
-        go true e = forwarded q a (s .greeted) true i n h (vouched (signedIn (s .phase)) e i)
-        go false e = forwarded q a (s .greeted) true Identities.Null 0 refl tt
+        go true e = forwarded q a (s .greeted) true i n h (λ x. e)
+        go false e = forwarded q a (s .greeted) true Identities.Null 0 refl (λ x. absurd (false≢true x))
 
     beginning : (m : Mail) → Makes s (Views.Command (Commands.Mail m)) t (begins s m)
     beginning Mails.Malformed = replied q Replies.Syntax
@@ -189,14 +180,14 @@ module _ (s : Session) (t : ℕ) where
     unfolding onCommand
     commanding Commands.NotUnderstood o = replied q Replies.NotUnderstood
     commanding Commands.Malformed o = replied q Replies.Syntax
-    commanding Commands.Ehlo o = forwarded q refl true false Identities.NoMail 0 refl tt
-    commanding Commands.Helo o = forwarded q refl false false Identities.NoMail 0 refl tt
-    commanding Commands.Rset o = forwarded q refl (s .greeted) false Identities.NoMail 0 refl tt
-    commanding Commands.Quit o = forwarded q refl (s .greeted) (s .transaction) Identities.NoMail 0 refl tt
+    commanding Commands.Ehlo o = forwarded q refl true false Identities.NoMail 0 refl (λ x. absurd (false≢true x))
+    commanding Commands.Helo o = forwarded q refl false false Identities.NoMail 0 refl (λ x. absurd (false≢true x))
+    commanding Commands.Rset o = forwarded q refl (s .greeted) false Identities.NoMail 0 refl (λ x. absurd (false≢true x))
+    commanding Commands.Quit o = forwarded q refl (s .greeted) (s .transaction) Identities.NoMail 0 refl (λ x. absurd (false≢true x))
     commanding (Commands.Mail m) o = mailing m
     commanding (Commands.Auth a) o = authorising a o
     commanding Commands.Barred o = replied q Replies.WrongMoment
-    commanding Commands.Other o = forwarded q refl (s .greeted) (s .transaction) Identities.NoMail 0 refl tt
+    commanding Commands.Other o = forwarded q refl (s .greeted) (s .transaction) Identities.NoMail 0 refl (λ x. absurd (false≢true x))
 
     resting : (v : View) (o : Offer) → Makes s v t (atRest s v o t)
     resting (Views.Command c) o = commanding c o
