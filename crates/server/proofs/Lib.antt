@@ -5,4 +5,5 @@ pub mod Slots
 pub mod Moves
 pub mod Issues
 pub mod Kept
+pub mod Closes
 pub mod Alike
