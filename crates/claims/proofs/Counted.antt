@@ -1,12 +1,13 @@
 -- Along a list of calls each ticket, and each connection number, is the next one. Assumes nothing.
 use mathlib.Core.Path.{_≡_, refl}
-use mathlib.Core.Bool.{true}
+use mathlib.Core.Bool.{Bool, true, false}
 use mathlib.Core.List.{List, [], _∷_}
 use mathlib.Core.Option.{some}
 use Prim.Native.Nat.{ℕ, _+_, _<_}
 use native.Mathlib.Omega.{arith}
 use lib.ListN.{length}
-use borrow.Author.Tests.{eq-eqb}
+use lib.Dec.{eqb}
+use borrow.Author.Tests.{eq-eqb, eqb-true}
 use Rattle.octets.specs.Lists.{every}
 use Rattle.octets.proofs.Cases.{both}
 use Rattle.server.specs.Limits.{numberBound}
@@ -28,7 +29,8 @@ use Rattle.claims.specs.Numbers.{tickets, connections, counted, CountedF
 use Rattle.claims.specs.Told.{made, Made}
 use Rattle.claims.proofs.Counts as Counts
 use Rattle.claims.proofs.Counts.{Counts, ticket-counts, number-counts}
-use Rattle.claims.proofs.Served.{Called, refused-by, moved, next}
+use Rattle.claims.proofs.Served.{Called, refused-by, moved, next, AllRefused, first-refused, all-refused}
+use Rattle.claims.proofs.Rises.{unmade-issues}
 
 -- the next number is as many above the first as were issued
 record Issues (n k : ℕ) (l : List ℕ) : Type 0 where
@@ -78,6 +80,14 @@ on-make i c t e a b =
       connection = record { above = omega arith; listed = refl };
     })
 
+none-counted : (c t : ℕ) (h : List Made) → AllRefused h → CountedFrom c t h
+unfolding counted
+none-counted c t h a = let n = unmade-issues h a in record { tickets = rw (n .0); connections = rw (n .1) }
+
 pub numbers-next : NumbersNext
 unfolding history
-numbers-next i c t cs e a m = on-calls (on-make i c t e (a .0) (a .1)) cs m
+numbers-next i c t cs a m = go (eqb (length i) imageSize) refl
+  where
+    go : (b : Bool) → eqb (length i) imageSize ≡ b → CountedFrom c t (history [] i (Calls.make c t ∷ cs))
+    go true e = on-calls (on-make i c t (eqb-true (length i) imageSize e) (a .0) (a .1)) cs m
+    go false e = none-counted c t _ (all-refused (first-refused i c t e) cs m .refused)

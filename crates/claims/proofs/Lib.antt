@@ -17,5 +17,6 @@ pub mod Counted
 pub mod Grants
 pub mod Voids
 pub mod Names
+pub mod Relays
 pub mod Sessions
 pub mod Witnesses

@@ -2,6 +2,7 @@
 use mathlib.Core.Path.{_≡_, refl, sym, ap, _∙_}
 use mathlib.Core.Bool.{Bool, true, false, cond, true≢false, false≢true}
 use mathlib.Core.List.{List, [], _∷_}
+use mathlib.Core.Logic.{_↔_}
 use mathlib.Core.Option.{Option, none, some, Option·none-ne-some}
 use Prim.Native.Nat.{ℕ, _+_}
 use native.Mathlib.Omega.{arith}
@@ -29,7 +30,9 @@ use Rattle.session.specs.declared.Session.{Session}
 use Rattle.session.specs.declared.answer.Answer.{Answer}
 use Rattle.session.specs.declared.answer.Answer.the-variants as Answers
 use Rattle.session.proofs.Laws.{line-refusals}
+use Rattle.server.specs.Close.{closeFound, onClose}
 use Rattle.server.specs.Line.{lineStep, lineFound, onLine}
+use Rattle.server.specs.MailEnded.{mailFound, onMailEnded}
 use Rattle.server.specs.Mechanisms.{offered}
 use Rattle.server.specs.Outcome.{refused, answered, Outcome, refuses, gives, settled}
 use Rattle.server.specs.Requests.{Request, on}
@@ -37,18 +40,21 @@ use Rattle.server.specs.Server.{Slot, Server}
 use Rattle.server.specs.Slots.{isNumbered, isWaiting, found}
 use Rattle.server.specs.Verdict.{verdictFound, onVerdict}
 use Rattle.server.specs.WellFormed.{wellFormed}
+use Rattle.server.specs.Who.{whoFound, onWho}
 use Rattle.server.specs.declared.Connection.{Connection}
 use Rattle.server.proofs.Kept.{parts}
 use Rattle.server.proofs.Moves.{Moves, Unrefused, moves}
 use Rattle.server.proofs.Slots.{foundWaits, found-own, found-waits}
-use Rattle.image.specs.Image.{Image}
+use Rattle.image.specs.Image.{Image, taken}
 use Rattle.image.proofs.Taken.{taken-within}
+use Rattle.calls.specs.Call as Calls
 use Rattle.calls.specs.Call.{Call, request, isShort}
 use Rattle.calls.specs.Step.{lent, onLent, outcome, resultIn, outOf, step}
-use Rattle.claims.specs.Refusals.{Unaltered, RefusedUnaltered, NoConnectionExactly, NoTicketExactly}
+use Rattle.claims.specs.Refusals.{Unaltered, RefusedUnaltered, connectionOf, NoConnectionExactly, NoTicketExactly}
 use Rattle.claims.specs.Told.{isRefusal, isWaitingOn, connectionAt, foundStands}
 use Rattle.claims.proofs.Follows.{look, waits-standing}
-use Rattle.claims.proofs.Others.{stands-taken}
+use Rattle.claims.proofs.Others.{has-taken, stands-taken}
+use Rattle.claims.proofs.Served.{outcome-plain}
 use Rattle.claims.proofs.Steps.{given-unrefused}
 
 -- an outcome is a refusal or gives no refusal
@@ -102,10 +108,48 @@ line-result s l (some c) e =
     (line-refusals (c .session) (view (c .session) l) o (s .header .ticket) Refusals.NoConnection
     (settled-refusal (lineStep s c l .answer) _ _ _ Refusals.NoConnection e)))
 
+mail-result : (s : Server) (x : Option Connection) → resultIn (mailFound s x) ≡ refused Refusals.NoConnection → x ≡ none
+mail-result s none e = refl
+mail-result s (some c) e = let z : _≡_ {A = ℕ} 0 1 = cc in absurd (omega arith)
+
+who-result : (s : Server) (x : Option Connection) → resultIn (whoFound s x) ≡ refused Refusals.NoConnection → x ≡ none
+who-result s none e = refl
+who-result s (some c) e = let z : _≡_ {A = ℕ} 0 1 = cc in absurd (omega arith)
+
+close-result : (s : Server) (x : Option Connection) → resultIn (closeFound s x) ≡ refused Refusals.NoConnection → x ≡ none
+close-result s none e = refl
+close-result s (some c) e = let z : _≡_ {A = ℕ} 0 1 = cc in absurd (omega arith)
+
+-- a call that names connection n and comes to what F makes of the connection that is found
+module _ (i : Image) (s : Server) (t : taken i ≡ some s) (c : Call) (n : ℕ) (F : Option Connection → Outcome)
+    (o : outcome i c ≡ F (found (isNumbered n) (s .slots))) (absent : resultIn (F none) ≡ refused Refusals.NoConnection)
+    (only : (x : Option Connection) → resultIn (F x) ≡ refused Refusals.NoConnection → x ≡ none) where
+  exactly : (step i c .result ≡ refused Refusals.NoConnection) ↔ (connectionAt i n ≡ none)
+  unfolding step
+  exactly =
+      let own = has-taken i s n t in
+      (λ e. own ∙ only (found (isNumbered n) (s .slots)) (sym (ap resultIn o) ∙ e), λ e. ap resultIn o ∙ ap (λ (x : Option Connection). resultIn (F x)) (sym own ∙ e) ∙ absent)
+
 pub no-connection-exactly : NoConnectionExactly
-unfolding step outcome on onLine connectionAt
-no-connection-exactly i s t n l r a e =
-    (λ f. rw t (line-result s l (found (isNumbered n) (s .slots)) (rw (e, t) at f)), λ g. rw (e, t) (ap (λ (x : Option Connection). resultIn (lineFound s l x)) (rw t at g)))
+unfolding on onLine onMailEnded onWho onClose
+no-connection-exactly i s t c n e h = go c e h
+  where
+    named : (m : ℕ) → _≡_ {A = Option ℕ} (some m) (some n) → m ≡ n
+    named m e = cc
+
+    never : _≡_ {A = Option ℕ} none (some n) → ⊥
+    never e = let z : _≡_ {A = ℕ} 0 1 = cc in omega arith
+
+    go : (c : Call) → connectionOf (request c) ≡ some n → isShort c ≡ false → (step i c .result ≡ refused Refusals.NoConnection) ↔ (connectionAt i n ≡ none)
+    go (Calls.make x y) e h = absurd (never e)
+    go (Calls.add x y z) e h = absurd (never e)
+    go (Calls.opens x y) e h = absurd (never e)
+    go (Calls.line m l r a) e h =
+        rw (named m e) (exactly i s t (Calls.line n l r a) n (lineFound s l) (outcome-plain i s t (Calls.line n l r a) (refl, h)) refl (line-result s l))
+    go (Calls.verdict u v d r a) e h = absurd (never e)
+    go (Calls.mailEnded m) e h = rw (named m e) (exactly i s t (Calls.mailEnded n) n (mailFound s) (outcome-plain i s t (Calls.mailEnded n) (refl, h)) refl (mail-result s))
+    go (Calls.who m b) e h = rw (named m e) (exactly i s t (Calls.who n b) n (whoFound s) (outcome-plain i s t (Calls.who n b) (refl, h)) refl (who-result s))
+    go (Calls.close m) e h = rw (named m e) (exactly i s t (Calls.close n) n (closeFound s) (outcome-plain i s t (Calls.close n) (refl, h)) refl (close-result s))
 
 -- a session that waits on the ticket refuses a verdict with 5 alone
 accepted-heard : (s : Session) (j : ℕ) (v : Verdict) (d : List ℕ) (k : Refusal) → accepted s j v d .answer ≡ Answers.Refused k → ⊥

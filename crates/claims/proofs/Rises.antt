@@ -1,5 +1,6 @@
 -- Along a list of calls tickets and connection numbers rise, so a ticket is issued once. Assumes nothing.
-use mathlib.Core.Path.{_≡_, refl}
+use mathlib.Core.Path.{_≡_, refl, _∙_, ap}
+use mathlib.Core.Bool.{true, false≢true}
 use mathlib.Core.List.{List, [], _∷_}
 use Prim.Native.Nat.{ℕ, _+_, _<_}
 use native.Mathlib.Omega.{arith}
@@ -7,12 +8,12 @@ use Rattle.session.specs.declared.answer.Answer.the-variants as Answers
 use Rattle.server.specs.Make.{fresh}
 use Rattle.server.specs.Outcome.{Result, refused, done, opened, answered, borne}
 use Rattle.server.specs.Server.{Server}
-use Rattle.claims.specs.Told.{Made}
+use Rattle.claims.specs.Told.{Made, isRefusal}
 use Rattle.claims.specs.Names.{Issued}
-use Rattle.claims.specs.Numbers.{issuesTicket, tickets, connections, Above, Rising}
+use Rattle.claims.specs.Numbers.{issuesTicket, issuesNumber, tickets, connections, Above, Rising, NumbersRise}
 use Rattle.claims.proofs.Counts as Counts
 use Rattle.claims.proofs.Counts.{Counts, ticket-counts, number-counts}
-use Rattle.claims.proofs.Served.{refused-by, moved, Served, begins, then}
+use Rattle.claims.proofs.Served.{refused-by, moved, Served, begins, then, AllRefused, last-refused, all-listed, by-list}
 
 -- ---- numbers rise
 
@@ -46,6 +47,29 @@ unfolding connections
 connections-rise (begins {c = c}) = unfold fresh in none-issued c
 connections-rise (then refused-by v) = connections-rise v
 connections-rise (then {h = h} (moved w e m) v) = rises-on (number-counts m w e (connections h)) (connections-rise v)
+
+-- where every call was refused none is issued
+nothing-issued : (a : Result) (ts ns : List ℕ) → isRefusal a ≡ true → (issuesTicket a ts ≡ ts) × (issuesNumber a ns ≡ ns)
+nothing-issued (refused k) ts ns e = (refl, refl)
+nothing-issued done ts ns e = absurd (false≢true e)
+nothing-issued (opened n) ts ns e = absurd (false≢true e)
+nothing-issued (answered a h x) ts ns e = absurd (false≢true e)
+nothing-issued (borne n) ts ns e = absurd (false≢true e)
+
+pub unmade-issues : (h : List Made) → AllRefused h → (tickets h ≡ []) × (connections h ≡ [])
+unfolding tickets connections
+unmade-issues [] a = (refl, refl)
+unmade-issues (e ∷ h) a =
+    let l = last-refused e h a in
+    let n = nothing-issued (e .result) (tickets h) (connections h) (l .0) in
+    let r = unmade-issues h (l .1) in
+    (n .0 ∙ r .0, n .1 ∙ r .1)
+
+pub numbers-rise : NumbersRise
+numbers-rise i c t cs q m =
+    by-list (all-listed i c t cs q m)
+    (λ s. (tickets-rise (s .served) .rising, connections-rise (s .served) .rising))
+    (λ u. let n = unmade-issues _ (u .refused) in rw (n .0, n .1) (none-issued 0 .rising, none-issued 0 .rising))
 
 -- ---- a ticket is issued once
 

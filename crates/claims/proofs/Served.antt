@@ -1,12 +1,13 @@
 -- The lists that names and tickets are claimed of, as servers go through them: made by the first call, and each later call is refused or moves the
--- server, whose image is taken. Assumes nothing.
-use mathlib.Core.Path.{_≡_, refl, ap, _∙_}
-use mathlib.Core.Bool.{Bool, true, false, cond, false≢true}
+-- server, whose image is taken. Where the first call is refused, all are. Assumes nothing.
+use mathlib.Core.Path.{_≡_, refl, sym, ap, _∙_}
+use mathlib.Core.Bool.{Bool, true, false, cond, false≢true, true≢false}
 use mathlib.Core.List.{List, [], _∷_}
-use mathlib.Core.Option.{Option, some}
+use mathlib.Core.Option.{Option, none, some}
 use Prim.Native.Nat.{ℕ, _<_}
 use lib.ListN.{length}
-use borrow.Author.Tests.{eq-eqb}
+use lib.Dec.{eqb}
+use borrow.Author.Tests.{eq-eqb, eqb-true}
 use Rattle.octets.specs.Lists.{every}
 use Rattle.octets.proofs.Cases.{both}
 use Rattle.profile.specs.declared.numbers.Refusal.{Refusal}
@@ -24,13 +25,12 @@ use Rattle.server.proofs.Moves.{Moves, Unrefused, moves}
 use Rattle.image.specs.Image as Images
 use Rattle.image.specs.Image.{Image}
 use Rattle.image.specs.Sizes.{imageSize}
-use Rattle.image.proofs.Taken.{taken-written, taken-within}
+use Rattle.image.proofs.Taken.{taken-written, taken-within, taken-length}
 use Rattle.calls.specs.Call as Calls
 use Rattle.calls.specs.Call.{Call, request, isShort}
 use Rattle.calls.specs.Step.{lent, onLent, outcome, resultIn, imageIn, step, left}
-use Rattle.claims.specs.Told.{Made}
 use Rattle.claims.specs.History.{history, isNoMake, NoMake, OfEveryList}
-use Rattle.claims.specs.Told.{made}
+use Rattle.claims.specs.Told.{Made, made, isRefusal}
 use Rattle.claims.proofs.Steps.{isMake}
 
 -- a call on a server, no make
@@ -122,6 +122,64 @@ unfolding history left every
 listed s [] m = s
 listed s (c ∷ cs) m = let b = both (isNoMake c) (every isNoMake cs) m in listed (goes s c (b .0)) cs (b .1)
 
-pub all-stand : OfEveryList Stands
+-- ---- a list of calls of which the first make was refused
+
+-- a call, no make, on an image that is not taken
+untaken : (i : Image) → Images.taken i ≡ none → (c : Call) → isNoMake c ≡ true → (isRefusal (step i c .result) ≡ true) × (step i c .image ≡ i)
+unfolding step outcome
+untaken i e c m = rw (later c m .lends i, e) (go (isShort c))
+  where
+    go : (b : Bool)
+        → (isRefusal (resultIn (cond b (Outcomes.refuses Refusals.ShortBuffer) (Outcomes.refuses Refusals.NotTaken))) ≡ true)
+        × (imageIn i (cond b (Outcomes.refuses Refusals.ShortBuffer) (Outcomes.refuses Refusals.NotTaken)) ≡ i)
+    go true = (refl, refl)
+    go false = (refl, refl)
+
+-- every call was refused, and the image is not taken
+abbrev pub AllRefused : List Made → Type 0
+AllRefused h = every (λ (e : Made). isRefusal (e .result)) h ≡ true
+
+pub record Unmade (h : List Made) (i : Image) : Type 0 where
+  pub refused : AllRefused h
+  pub untaken : Images.taken i ≡ none
+
+pub first-refused : (i : Image) (c t : ℕ) → eqb (length i) imageSize ≡ false
+    → Unmade (made (Requests.make c t) (step i (Calls.make c t) .result) ∷ []) (step i (Calls.make c t) .image)
+unfolding step outcome every
+first-refused i c t e =
+    rw e (record { refused = refl; untaken = taken-length i (λ l. true≢false (sym (eq-eqb (length i) imageSize l) ∙ e)) })
+
+pub all-refused : {h : List Made} {i : Image} → Unmade h i → (cs : List Call) → NoMake cs → Unmade (history h i cs) (left i cs)
+unfolding history left every
+all-refused u [] m = u
+all-refused {h} {i} u (c ∷ cs) m =
+    let b = both (isNoMake c) (every isNoMake cs) m in
+    let r = untaken i (u .untaken) c (b .0) in
+    all-refused (record { refused = rw (r .0) (u .refused); untaken = ap Images.taken (r .1) ∙ u .untaken }) cs (b .1)
+
+-- the last call, and those before it
+pub last-refused : (e : Made) (h : List Made) → AllRefused (e ∷ h) → (isRefusal (e .result) ≡ true) × AllRefused h
+unfolding every
+last-refused e h r = both (isRefusal (e .result)) (every (λ (x : Made). isRefusal (x .result)) h) r
+
+-- so no call gives anything then
+pub gives-nothing : {h : List Made} {i : Image} → Unmade h i → (c : Call) → isNoMake c ≡ true → (r : Result) → step i c .result ≡ r → isRefusal r ≡ false → ⊥
+gives-nothing {h} {i} u c m r e f = true≢false (sym (untaken i (u .untaken) c m .0) ∙ ap isRefusal e ∙ f)
+
+-- ---- either way
+
+pub data Listed (h : List Made) (i : Image) : Type 0 where
+  served : Stands h i → Listed h i
+  unmade : Unmade h i → Listed h i
+
+pub all-listed : OfEveryList Listed
 unfolding history left
-all-stand i c t cs p q m = listed (first i c t p (q .0) (q .1)) cs m
+all-listed i c t cs q m = go (eqb (length i) imageSize) refl
+  where
+    go : (b : Bool) → eqb (length i) imageSize ≡ b → Listed (history [] i (Calls.make c t ∷ cs)) (left i (Calls.make c t ∷ cs))
+    go true e = served (listed (first i c t (eqb-true (length i) imageSize e) (q .0) (q .1)) cs m)
+    go false e = unmade (all-refused (first-refused i c t e) cs m)
+
+pub by-list : {A : Type 0} {h : List Made} {i : Image} → Listed h i → (Stands h i → A) → (Unmade h i → A) → A
+by-list (served s) f g = f s
+by-list (unmade u) f g = g u

@@ -13,6 +13,10 @@ use borrow.Author.Tests.{eq-eqb, le-leb}
 use Rattle.octets.specs.Ascii.{ascii, capital, capitals}
 use Rattle.octets.specs.Lists.{every, oneTo, same, before, after, paddedTo}
 use Rattle.base64.specs.Base64 as Base64
+use Rattle.xtext.specs.Xtext as Xtext
+use Rattle.mail.specs.Mail as Mails
+use Rattle.mail.specs.Parameter as Parameters
+use Rattle.mail.specs.Address as Addresses
 use Rattle.profile.specs.Texts.{words, reply}
 use Rattle.lines.specs.Alike.{Alike}
 use Rattle.lines.specs.Auth.{initial, arguments, auth}
@@ -26,6 +30,7 @@ use Rattle.session.specs.Auth.{onAuth}
 use Rattle.session.specs.Command.{onCommand}
 use Rattle.session.specs.Limits.{replyBuffer, answerBuffer, longestName}
 use Rattle.session.specs.Line.{afterLine}
+use Rattle.session.specs.Mail.{onMail}
 use Rattle.session.specs.Octets.{queryOctets, relayOctets}
 use Rattle.session.specs.Response.{onResponse}
 use Rattle.session.specs.Session.{nameOf}
@@ -56,7 +61,8 @@ use Rattle.claims.specs.History.{history, AllSized}
 use Rattle.claims.specs.Secrecy as Secrecy
 use Rattle.claims.specs.Told.{told}
 use Rattle.claims.proofs.Served.{later, Plain, lent-plain, outcome-plain}
-use Rattle.claims.specs.Witnesses.{Buffers, LongEnough, example, signIns, shown, gave, exampleShows, SignsIn, signInsShow, sesame, tomato, plain, PasswordsAlike}
+use Rattle.claims.specs.Witnesses.{Buffers, LongEnough, shown, gave, example, exampleShows, SignsIn, lateVerdict, lateVerdictShows, LateVerdict}
+use Rattle.claims.specs.Witnesses.{signIns, signInsShow, sesame, tomato, plain, PasswordsAlike}
 use Rattle.claims.proofs.Follows.{look}
 use Rattle.claims.proofs.Others.{stands-taken}
 use Rattle.claims.proofs.Tells.{told-stands}
@@ -174,7 +180,10 @@ example-requests =
     ∷ []
 
 example-computed : gave done ∷ all-show (fresh 1 1) example-requests ≡ exampleShows
-unfolding example-requests fresh on onAdd onOpen onLine onVerdict onWho onClose anyFree found replaced offered responseOn padded every oneTo same before after paddedTo capital words reply verb verbOf initial arguments auth forbidden understood command response viewIn heard nameOf queryOctets relayOctets onAuth onCommand onResponse afterLine Verdicts.onVerdict Verdicts.afterVerdict Base64.alphabet Base64.letter Base64.value Base64.groupOf Base64.valid Base64.octets Base64.encode
+unfolding example-requests fresh on onAdd onOpen onLine onVerdict onWho onClose anyFree found replaced offered responseOn padded every oneTo same
+    before after paddedTo capital words reply verb verbOf initial arguments auth forbidden understood command response viewIn heard nameOf queryOctets
+    relayOctets onAuth onCommand onResponse afterLine Verdicts.onVerdict Verdicts.afterVerdict Base64.alphabet Base64.letter Base64.value
+    Base64.groupOf Base64.valid Base64.octets Base64.encode
 example-computed = refl
 
 pub signs-in : SignsIn
@@ -184,6 +193,43 @@ signs-in i b e l =
     made-shows i e (drop 1 (example b))
     ((refl, refl), ((refl, refl), ((refl, refl), ((refl, two), ((refl, two), ((refl, two), ((refl, long-name b l), ((refl, two), ((refl, refl), ((refl, two), tt))))))))))
     ∙ example-computed
+
+-- ---- the late verdict
+
+late-requests : List Request
+late-requests =
+    Requests.add (ascii "PLAIN") 1 0
+    ∷ Requests.opens 0 0
+    ∷ Requests.line 1 (ascii "EHLO a.example")
+    ∷ Requests.line 1 (ascii "AUTH PLAIN Zm9v")
+    ∷ Requests.close 1
+    ∷ Requests.opens 0 0
+    ∷ Requests.line 2 (ascii "EHLO b.example")
+    ∷ Requests.line 2 (ascii "AUTH PLAIN Zm9v")
+    ∷ Requests.verdict 1 1 (ascii "mill-lane")
+    ∷ Requests.who 2
+    ∷ Requests.verdict 2 1 (ascii "brook-street")
+    ∷ Requests.who 2
+    ∷ Requests.line 2 (ascii "MAIL FROM:<a@example.com> SUBMITTER=x@example.org AUTH=e+3Dmc2@example.com")
+    ∷ []
+
+late-computed : gave done ∷ all-show (fresh 1 1) late-requests ≡ lateVerdictShows
+unfolding late-requests fresh on onAdd onOpen onLine onVerdict onWho onClose anyFree found replaced offered responseOn padded every oneTo same before
+    after paddedTo capital words reply verb verbOf initial arguments auth forbidden understood command response viewIn heard nameOf queryOctets
+    relayOctets onAuth onMail onCommand onResponse afterLine Verdicts.onVerdict Verdicts.afterVerdict Base64.alphabet Base64.letter Base64.value
+    Base64.groupOf Base64.valid Base64.octets Base64.encode Mails.opens Mails.pathEnds Mails.rest Mails.words Mails.count Mails.allGood Mails.said
+    Mails.identity Mails.wellFormed Mails.mailAt Mails.mail Parameters.keyword Parameters.value Parameters.parameter Parameters.named
+    Parameters.authValue Parameters.submitterValue Parameters.good Addresses.address Xtext.digits Xtext.digit Xtext.number Xtext.valid Xtext.octets
+late-computed = refl
+
+pub late-verdict : LateVerdict
+unfolding late-requests
+late-verdict i b e l =
+    let t = long-two b l in
+    let n = long-name b l in
+    made-shows i e (drop 1 (lateVerdict b))
+    ((refl, refl), ((refl, refl), ((refl, t), ((refl, t), ((refl, refl), ((refl, refl), ((refl, t), ((refl, t), ((refl, t), ((refl, n), ((refl, t), ((refl, n), ((refl, t), tt)))))))))))))
+    ∙ late-computed
 
 -- ---- the passwords
 
@@ -211,20 +257,32 @@ sign-in-requests p =
     ∷ []
 
 sesame-computed : gave done ∷ all-show (fresh 1 1) (sign-in-requests (ascii "AGFubmEAc2VzYW1l")) ≡ signInsShow (plain "sesame")
-unfolding sign-in-requests fresh on onAdd onOpen onLine onVerdict onWho onClose anyFree found replaced offered responseOn padded every oneTo same before after paddedTo capital words reply verb verbOf initial arguments auth forbidden understood command response viewIn heard nameOf queryOctets relayOctets onAuth onCommand onResponse afterLine Verdicts.onVerdict Verdicts.afterVerdict Base64.alphabet Base64.letter Base64.value Base64.groupOf Base64.valid Base64.octets Base64.encode
+unfolding sign-in-requests fresh on onAdd onOpen onLine onVerdict onWho onClose anyFree found replaced offered responseOn padded every oneTo same
+    before after paddedTo capital words reply verb verbOf initial arguments auth forbidden understood command response viewIn heard nameOf queryOctets
+    relayOctets onAuth onCommand onResponse afterLine Verdicts.onVerdict Verdicts.afterVerdict Base64.alphabet Base64.letter Base64.value
+    Base64.groupOf Base64.valid Base64.octets Base64.encode
 sesame-computed = refl
 
 tomato-computed : gave done ∷ all-show (fresh 1 1) (sign-in-requests (ascii "AGFubmEAdG9tYXRv")) ≡ signInsShow (plain "tomato")
-unfolding sign-in-requests fresh on onAdd onOpen onLine onVerdict onWho onClose anyFree found replaced offered responseOn padded every oneTo same before after paddedTo capital words reply verb verbOf initial arguments auth forbidden understood command response viewIn heard nameOf queryOctets relayOctets onAuth onCommand onResponse afterLine Verdicts.onVerdict Verdicts.afterVerdict Base64.alphabet Base64.letter Base64.value Base64.groupOf Base64.valid Base64.octets Base64.encode
+unfolding sign-in-requests fresh on onAdd onOpen onLine onVerdict onWho onClose anyFree found replaced offered responseOn padded every oneTo same
+    before after paddedTo capital words reply verb verbOf initial arguments auth forbidden understood command response viewIn heard nameOf queryOctets
+    relayOctets onAuth onCommand onResponse afterLine Verdicts.onVerdict Verdicts.afterVerdict Base64.alphabet Base64.letter Base64.value
+    Base64.groupOf Base64.valid Base64.octets Base64.encode
 tomato-computed = refl
 
 -- an answer is awaited after the empty challenge, and after that of the service
 awaits-first : look 1 (after-requests (fresh 1 1) (take 5 (sign-in-requests (ascii "AGFubmEAc2VzYW1l"))) .slots) ≡ awaits
-unfolding sign-in-requests fresh on onAdd onOpen onLine onVerdict onWho onClose anyFree found replaced offered responseOn padded every oneTo same before after paddedTo capital words reply verb verbOf initial arguments auth forbidden understood command response viewIn heard nameOf queryOctets relayOctets onAuth onCommand onResponse afterLine Verdicts.onVerdict Verdicts.afterVerdict Base64.alphabet Base64.letter Base64.value Base64.groupOf Base64.valid Base64.octets Base64.encode
+unfolding sign-in-requests fresh on onAdd onOpen onLine onVerdict onWho onClose anyFree found replaced offered responseOn padded every oneTo same
+    before after paddedTo capital words reply verb verbOf initial arguments auth forbidden understood command response viewIn heard nameOf queryOctets
+    relayOctets onAuth onCommand onResponse afterLine Verdicts.onVerdict Verdicts.afterVerdict Base64.alphabet Base64.letter Base64.value
+    Base64.groupOf Base64.valid Base64.octets Base64.encode
 awaits-first = refl
 
 awaits-third : look 3 (after-requests (fresh 1 1) (take 13 (sign-in-requests (ascii "AGFubmEAc2VzYW1l"))) .slots) ≡ awaits
-unfolding sign-in-requests fresh on onAdd onOpen onLine onVerdict onWho onClose anyFree found replaced offered responseOn padded every oneTo same before after paddedTo capital words reply verb verbOf initial arguments auth forbidden understood command response viewIn heard nameOf queryOctets relayOctets onAuth onCommand onResponse afterLine Verdicts.onVerdict Verdicts.afterVerdict Base64.alphabet Base64.letter Base64.value Base64.groupOf Base64.valid Base64.octets Base64.encode
+unfolding sign-in-requests fresh on onAdd onOpen onLine onVerdict onWho onClose anyFree found replaced offered responseOn padded every oneTo same
+    before after paddedTo capital words reply verb verbOf initial arguments auth forbidden understood command response viewIn heard nameOf queryOctets
+    relayOctets onAuth onCommand onResponse afterLine Verdicts.onVerdict Verdicts.afterVerdict Base64.alphabet Base64.letter Base64.value
+    Base64.groupOf Base64.valid Base64.octets Base64.encode
 awaits-third = refl
 
 sesame-tomato : Alike (ascii "AGFubmEAc2VzYW1l") (ascii "AGFubmEAdG9tYXRv")

@@ -5,12 +5,10 @@ use mathlib.Core.Path.{_≡_}
 use mathlib.Core.Bool.{Bool, true, false}
 use mathlib.Core.List.{List, [], _∷_}
 use Prim.Native.Nat.{ℕ}
-use lib.ListN.{length}
 use Rattle.octets.specs.Lists.{every}
 use Rattle.server.specs.Requests as Requests
 use Rattle.server.specs.Requests.{Sized}
 use Rattle.image.specs.Image.{Image}
-use Rattle.image.specs.Sizes.{imageSize}
 use Rattle.calls.specs.Call.{Call, make, add, opens, line, verdict, mailEnded, who, close, request}
 use Rattle.calls.specs.Step.{step, left}
 use Rattle.claims.specs.Told.{Made, made, seen, told}
@@ -33,11 +31,11 @@ isNoMake (close n) = true
 abbrev pub NoMake : List Call → Type 0
 NoMake cs = every isNoMake cs ≡ true
 
--- S of every list that begins with a make and has no later one: of what was made, and of the image that the list leaves
+-- S of every list that begins with a make and has no later one: of what was made, and of the image that the list leaves. The first image is of
+-- whatever octets and length, so the make may be refused
 abbrev pub OfEveryList : (List Made → Image → Type 0) → Type 0
 OfEveryList S =
-    (i : Image) (c t : ℕ) (cs : List Call) → length i ≡ imageSize → Sized (Requests.make c t) → NoMake cs
-    → S (history [] i (make c t ∷ cs)) (left i (make c t ∷ cs))
+    (i : Image) (c t : ℕ) (cs : List Call) → Sized (Requests.make c t) → NoMake cs → S (history [] i (make c t ∷ cs)) (left i (make c t ∷ cs))
 
 -- what is told of a list is so: how each connection stands, told from the calls, is how the image that they leave has it. This is of every image
 -- and every list, makes and refused calls among them

@@ -4,6 +4,7 @@ pub mod Told
 pub mod History
 pub mod Secrecy
 pub mod Names
+pub mod Relays
 pub mod Numbers
 pub mod Others
 pub mod Sessions

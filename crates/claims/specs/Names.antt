@@ -7,7 +7,6 @@ use mathlib.Core.Option.{Option, none, some}
 use Prim.Native.Nat.{ℕ}
 use lib.Dec.{eqb}
 use Rattle.profile.specs.Numbers.{verdictNumber}
-use Rattle.profile.specs.declared.numbers.Identity.the-variants as Identities
 use Rattle.profile.specs.declared.numbers.Refusal.the-variants as Refusals
 use Rattle.profile.specs.declared.numbers.Verdict.the-variants as Verdicts
 use Rattle.session.specs.declared.answer.Answer.the-variants as Answers
@@ -68,13 +67,6 @@ NamesGranted = OfEveryList (λ h i. (n : ℕ) (b l : List ℕ) → step i (Calls
 abbrev pub GrantedNames : Type 0
 GrantedNames =
     OfEveryList (λ h i. (n : ℕ) (b l : List ℕ) → Granted n l h → isShort (Calls.who n b) ≡ false → step i (Calls.who n b) .result ≡ borne (some l))
-
--- ""<>" if nobody is signed in": an address is relayed only for a connection that was granted a name
-abbrev pub RelaysGranted : Type 0
-RelaysGranted =
-    OfEveryList
-    (λ h i. (n k : ℕ) (l r a x y : List ℕ) → step i (Calls.line n l r a) .result ≡ answered (Answers.Forward Identities.Address k) x y
-    → (m : List ℕ) × Granted n m h)
 
 -- "Ending it voids its ticket": after a close of connection n, every later verdict on any ticket that was issued to it is refused
 abbrev pub CloseVoids : Type 0

@@ -10,7 +10,6 @@ use Rattle.server.specs.Outcome.{Result, refused, done, opened, answered, borne
 use Rattle.server.specs.Requests as Requests
 use Rattle.server.specs.Requests.{Sized}
 use Rattle.image.specs.Image.{Image}
-use Rattle.image.specs.Sizes.{imageSize}
 use Rattle.calls.specs.Call as Calls
 use Rattle.calls.specs.Call.{Call}
 use Rattle.claims.specs.Told.{Made}
@@ -72,5 +71,4 @@ pub record CountedFrom (c t : ℕ) (h : List Made) : Type 0 where
 
 abbrev pub NumbersNext : Type 0
 NumbersNext =
-    (i : Image) (c t : ℕ) (cs : List Call) → length i ≡ imageSize → Sized (Requests.make c t) → NoMake cs
-    → CountedFrom c t (history [] i (Calls.make c t ∷ cs))
+    (i : Image) (c t : ℕ) (cs : List Call) → Sized (Requests.make c t) → NoMake cs → CountedFrom c t (history [] i (Calls.make c t ∷ cs))

@@ -4,15 +4,17 @@ use mathlib.Core.Path.{_≡_}
 use mathlib.Core.Bool.{false}
 use mathlib.Core.List.{List}
 use mathlib.Core.Logic.{_↔_}
-use mathlib.Core.Option.{none, some}
+use mathlib.Core.Option.{Option, none, some}
 use Prim.Native.Nat.{ℕ}
 use Rattle.profile.specs.declared.numbers.Refusal.{Refusal}
 use Rattle.profile.specs.declared.numbers.Refusal.the-variants.{NoConnection, NoTicket}
 use Rattle.server.specs.Outcome.{refused}
+use Rattle.server.specs.Requests as Requests
+use Rattle.server.specs.Requests.{Request}
 use Rattle.server.specs.Server.{Server}
 use Rattle.image.specs.Image.{Image, taken}
 use Rattle.calls.specs.Buffers.{replyAfter, answerAfter, nameAfter}
-use Rattle.calls.specs.Call.{Call, line, verdict, isShort}
+use Rattle.calls.specs.Call.{Call, verdict, request, isShort}
 use Rattle.calls.specs.Step.{Out, step}
 use Rattle.claims.specs.Told.{isWaitingOn, connectionAt, seen}
 
@@ -26,12 +28,23 @@ pub record Unaltered (i : Image) (o : Out) : Type 0 where
 abbrev pub RefusedUnaltered : Type 0
 RefusedUnaltered = (i : Image) (c : Call) (k : Refusal) → step i c .result ≡ refused k → Unaltered i (step i c)
 
--- 2, "no open connection has this number", and 4, "no open connection waits on this ticket", on an image that is taken: told of the connections
--- there. A buffer that is too short is refused first
+-- 2 and 4 are given exactly when the image, one that is taken, has no connection with the number that a call names, or none that waits on the
+-- ticket (document 01, the table of refusals). A buffer that is too short is refused first.
+-- The connection that a call names by its number:
+abbrev pub connectionOf : Request → Option ℕ
+connectionOf (Requests.make c t) = none
+connectionOf (Requests.add m f p) = none
+connectionOf (Requests.opens p b) = none
+connectionOf (Requests.line n l) = some n
+connectionOf (Requests.verdict t v d) = none
+connectionOf (Requests.mailEnded n) = some n
+connectionOf (Requests.who n) = some n
+connectionOf (Requests.close n) = some n
+
 abbrev pub NoConnectionExactly : Type 0
 NoConnectionExactly =
-    (i : Image) (s : Server) → taken i ≡ some s → (n : ℕ) (l r a : List ℕ) → isShort (line n l r a) ≡ false
-    → (step i (line n l r a) .result ≡ refused NoConnection) ↔ (connectionAt i n ≡ none)
+    (i : Image) (s : Server) → taken i ≡ some s → (c : Call) (n : ℕ) → connectionOf (request c) ≡ some n → isShort c ≡ false
+    → (step i c .result ≡ refused NoConnection) ↔ (connectionAt i n ≡ none)
 
 abbrev pub NoTicketExactly : Type 0
 NoTicketExactly =

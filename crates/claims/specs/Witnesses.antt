@@ -1,8 +1,9 @@
--- The claims are not empty: document 01's example signs in, and two lists of calls that differ in passwords meet the premise of the third demand.
+-- The claims are not empty: document 01's example signs in, a late verdict signs nobody in, and two lists of calls that differ in passwords meet
+-- the premise of the third demand.
 use mathlib.Core.Path.{_≡_}
 use mathlib.Core.Bool.{false, true}
 use mathlib.Core.List.{List, [], _∷_, _++_, map}
-use mathlib.Core.Option.{some}
+use mathlib.Core.Option.{none, some}
 use Prim.Native.Nat.{ℕ, _≤_}
 use Prim.Native.String.{String}
 use lib.ListN.{length}
@@ -85,6 +86,27 @@ module _ (b : Buffers) where
       ∷ who 3 (b .name)
       ∷ []
 
+  -- what the mission fears of a key that is given out again: connection 1 is closed while its ticket waits, and connection 2 takes its slot and
+  -- asks under a ticket of its own. The late verdict is refused and signs nobody in. Then 2 signs in, and its MAIL, in which SUBMITTER comes
+  -- before AUTH, is passed on with the address that AUTH says
+  abbrev pub lateVerdict : List Call
+  lateVerdict =
+      make 1 1
+      ∷ add (ascii "PLAIN") 1 0
+      ∷ opens 0 0
+      ∷ says 1 "EHLO a.example"
+      ∷ says 1 "AUTH PLAIN Zm9v"
+      ∷ close 1
+      ∷ opens 0 0
+      ∷ says 2 "EHLO b.example"
+      ∷ says 2 "AUTH PLAIN Zm9v"
+      ∷ succeeds 1 "mill-lane"
+      ∷ who 2 (b .name)
+      ∷ succeeds 2 "brook-street"
+      ∷ who 2 (b .name)
+      ∷ says 2 "MAIL FROM:<a@example.com> SUBMITTER=x@example.org AUTH=e+3Dmc2@example.com"
+      ∷ []
+
 -- what a call gives, and the octets that it hands over
 abbrev pub shown : Out → Result × List ℕ
 shown o = (o .result, o .handed)
@@ -113,6 +135,28 @@ exampleShows =
 
 abbrev pub SignsIn : Type 0
 SignsIn = (i : Image) (b : Buffers) → length i ≡ imageSize → LongEnough b → map shown (run i (example b)) ≡ exampleShows
+
+-- of the late verdict
+abbrev pub lateVerdictShows : List (Result × List ℕ)
+lateVerdictShows =
+    gave done
+    ∷ gave done
+    ∷ gave (opened 1)
+    ∷ gave (answered (Answers.Forward Identities.NoMail 0) [] [])
+    ∷ (answered (Answers.Query 1 false 3) [] [], ascii "foo")
+    ∷ gave done
+    ∷ gave (opened 2)
+    ∷ gave (answered (Answers.Forward Identities.NoMail 0) [] [])
+    ∷ (answered (Answers.Query 2 false 3) [] [], ascii "foo")
+    ∷ gave (refused Refusals.NoTicket)
+    ∷ gave (borne none)
+    ∷ hears Replies.Success "235 2.7.0 Authentication succeeded"
+    ∷ gave (borne (some (ascii "brook-street")))
+    ∷ (answered (Answers.Forward Identities.Address 17) [] (ascii "e=mc2@example.com"), ascii "e=mc2@example.com")
+    ∷ []
+
+abbrev pub LateVerdict : Type 0
+LateVerdict = (i : Image) (b : Buffers) → length i ≡ imageSize → LongEnough b → map shown (run i (lateVerdict b)) ≡ lateVerdictShows
 
 -- of the sign-ins; w: what the base64 stands for, of 12 octets
 abbrev pub signInsShow : List ℕ → List (Result × List ℕ)
