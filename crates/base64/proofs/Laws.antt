@@ -11,9 +11,9 @@ use lib.ListN.{length, take, drop}
 use lib.Seq.{drop-nil}
 use Rattle.octets.specs.Lists.{Octets, holds}
 use Rattle.octets.specs.declared.Measured.{Measured}
-use Rattle.base64.specs.Base64.{alphabet, value, pad, encode, groupOf, octetsOf, valid, octets, closing, measured}
+use Rattle.base64.specs.Base64.{alphabet, value, pad, encode, joined, octet1, octet2, octet3, groupOf, octetsOf, valid, octets, closing, measured}
 use Rattle.base64.specs.declared.Group.{Group}
-use Rattle.base64.proofs.Groups.{Cases, is-one, is-two, is-three, is-bad, cases, not-pad, three-of, two-of, one-of}
+use Rattle.base64.proofs.Groups.{Cases, is-one, is-two, is-three, is-bad, cases, not-pad}
 use Rattle.base64.proofs.Grammar.{Text, none, two-letters, three-letters, four-letters, text}
 -- decoding an encoding gives the octets back; every accepted text is the encoding of what it decodes to; for n octets the encoded
 -- length is 4 times n/3 rounded up
@@ -119,30 +119,59 @@ unfolding value alphabet
 clean t h =
     (not-held 0 (omega arith) (λ e. omega arith) t h, not-held 10 (omega arith) (λ e. omega arith) t h, not-held 13 (omega arith) (λ e. omega arith) t h, not-held 32 (omega arith) (λ e. omega arith) t h)
 
-threes : (k : ℕ) → 3 * suc k ≡ suc (suc (suc (3 * k)))
-threes k = omega arith
+-- RFC 4648 section 4: four letters of six bits each stand for three octets, so an octet lies in two letters side by side. Of a group's first
+-- octet six bits are in the one letter and two in the next, of its second four and four, of its third two and six
+module _ (p q r s : ℕ) (hp : p < 64) (hq : q < 64) (hr : r < 64) (hs : s < 64) where
+  octet1-joined : octet1 (joined p q r s) ≡ p * 4 + q / 16
+  octet1-joined = omega arith
 
-fours : (k : ℕ) → 4 * suc k ≡ suc (suc (suc (suc (4 * k))))
-fours k = omega arith
+  octet2-joined : octet2 (joined p q r s) ≡ q % 16 * 16 + r / 4
+  octet2-joined = omega arith
 
--- group by group: the octets of a group of four letters are its own alone
-grouped : {t l : List ℕ} → Text t l → (k : ℕ) → take 3 (drop (3 * k) l) ≡ octets (take 4 (drop (4 * k) t))
-unfolding octets
-grouped none k = rw (drop-nil, drop-nil)
-grouped (two-letters ha hb hc hd hz) zero = rw (← (one-of _ _ _ _ ha hb hc hd hz))
-grouped (two-letters ha hb hc hd hz) (suc k) = rw (threes k, fours k, drop-nil (4 * k))
-grouped (three-letters ha hb hc hd hz) zero = rw (← (two-of _ _ _ _ ha hb hc hd hz))
-grouped (three-letters ha hb hc hd hz) (suc k) = rw (threes k, fours k, drop-nil (4 * k))
-grouped (four-letters ha hb hc hd m) zero = rw (← (three-of _ _ _ _ ha hb hc hd))
-grouped (four-letters ha hb hc hd m) (suc k) = rw (threes k, fours k) (grouped m k)
+  octet3-joined : octet3 (joined p q r s) ≡ r % 4 * 64 + s
+  octet3-joined = omega arith
 
-pub octets-group : (t : List ℕ) → valid t ≡ true → (k : ℕ) → take 3 (drop (3 * k) (octets t)) ≡ octets (take 4 (drop (4 * k) t))
-octets-group t h k = grouped (text t h) k
+-- what two octets of text x and y hold of octet j, counted from 0: where y is "=", neither a second nor a third octet of a group
+unpadded : ℕ → ℕ → List ℕ
+unpadded y n = cond (eqb y pad) [] (n ∷ [])
 
--- so equal groups of four letters give equal octets
-pub same-group : (t u : List ℕ) → valid t ≡ true → valid u ≡ true → (k : ℕ) → take 4 (drop (4 * k) t) ≡ take 4 (drop (4 * k) u)
-    → take 3 (drop (3 * k) (octets t)) ≡ take 3 (drop (3 * k) (octets u))
-same-group t u ht hu k e = octets-group t ht k ∙ ap octets e ∙ sym (octets-group u hu k)
+held : ℕ → ℕ → ℕ → List ℕ
+held zero x y = (value x * 4 + value y / 16) ∷ []
+held (suc zero) x y = unpadded y (value x % 16 * 16 + value y / 4)
+held (suc (suc zero)) x y = unpadded y (value x % 4 * 64 + value y)
+held (suc (suc (suc j))) x y = held j x y
+
+-- a function of two octets of text, where there are two
+ofTwo : (ℕ → ℕ → List ℕ) → List ℕ → List ℕ
+ofTwo f [] = []
+ofTwo f (x ∷ []) = []
+ofTwo f (x ∷ y ∷ l) = f x y
+
+-- three octets on is four letters on
+later : (j : ℕ) → suc (suc (suc j)) + suc (suc (suc j)) / 3 ≡ suc (suc (suc (suc (j + j / 3))))
+later j = omega arith
+
+-- octet j stands in the octets of text at index j + j / 3 and behind it, and in no other
+octet-held : {t l : List ℕ} → Text t l → (j : ℕ) → take 1 (drop j l) ≡ ofTwo (held j) (take 2 (drop (j + j / 3) t))
+unfolding ofTwo held unpadded
+octet-held none j = rw (drop-nil j, drop-nil (j + j / 3))
+octet-held (two-letters ha hb hc hd hz) zero = rw (octet1-joined _ _ 0 0 ha hb (omega arith) (omega arith))
+octet-held (two-letters ha hb hc hd hz) (suc zero) = rw hc
+octet-held (two-letters ha hb hc hd hz) (suc (suc zero)) = rw hd
+octet-held (two-letters ha hb hc hd hz) (suc (suc (suc j))) = rw (later j, drop-nil (j + j / 3))
+octet-held (three-letters ha hb hc hd hz) zero = rw (octet1-joined _ _ _ 0 ha hb hc (omega arith))
+octet-held (three-letters ha hb hc hd hz) (suc zero) = rw (letter-not-pad _ hc, octet2-joined _ _ _ 0 ha hb hc (omega arith))
+octet-held (three-letters ha hb hc hd hz) (suc (suc zero)) = rw hd
+octet-held (three-letters ha hb hc hd hz) (suc (suc (suc j))) = rw (later j, drop-nil (j + j / 3))
+octet-held (four-letters ha hb hc hd m) zero = rw (octet1-joined _ _ _ _ ha hb hc hd)
+octet-held (four-letters ha hb hc hd m) (suc zero) = rw (letter-not-pad _ hc, octet2-joined _ _ _ _ ha hb hc hd)
+octet-held (four-letters ha hb hc hd m) (suc (suc zero)) = rw (letter-not-pad _ hd, octet3-joined _ _ _ _ ha hb hc hd)
+octet-held (four-letters ha hb hc hd m) (suc (suc (suc j))) = rw (later j) (octet-held m j)
+
+-- so two valid texts, with closing "=" or without, stand for equal octets wherever the two octets of text that hold one are equal
+pub same-octet : (t u : List ℕ) → valid t ≡ true → valid u ≡ true → (j : ℕ) → take 2 (drop (j + j / 3) t) ≡ take 2 (drop (j + j / 3) u)
+    → take 1 (drop j (octets t)) ≡ take 1 (drop j (octets u))
+same-octet t u ht hu j e = octet-held (text t ht) j ∙ ap (ofTwo (held j)) e ∙ sym (octet-held (text u hu) j)
 
 -- a text is accepted exactly when it is the encoding of some octets
 pub accepted : (t : List ℕ) → valid t ≡ true ↔ ((l : List ℕ) × Octets l × (encode l ≡ t))

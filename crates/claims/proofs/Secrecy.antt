@@ -33,9 +33,9 @@ use Rattle.calls.specs.Call as Calls
 use Rattle.calls.specs.Call.{Call, request, isShort}
 use Rattle.calls.specs.Step.{lent, onLent, outcome, resultIn, imageIn, responseLent, isQueried, relayedIn, outOf, step, run}
 use Rattle.claims.specs.Secrecy as Secrecy
-use Rattle.claims.specs.Secrecy.{CallsAlike, ListsAlike, lineIn, responseIn, letters, octets, Agree, AgreeAll}
+use Rattle.claims.specs.Secrecy.{CallsAlike, ListsAlike, lineIn, responseIn, lettersOf, octetAt, Agree, AgreeAll}
 use Rattle.claims.specs.Told.{Made, foundStands, serverStands, seen, told}
-use Rattle.claims.proofs.Responses.{groups}
+use Rattle.claims.proofs.Responses.{query-octet}
 use Rattle.claims.proofs.Tells.{told-on}
 
 -- ---- a line
@@ -87,20 +87,20 @@ query-valid v l t (Answers.Reply r) m e = absurd (false≢true e)
 query-valid v l t Answers.EmptyChallenge m e = absurd (false≢true e)
 query-valid v l t Answers.Challenge m e = absurd (false≢true e)
 
-module _ (n : ℕ) (l k : List ℕ) (j : ℕ) (g : letters j (responseIn l) ≡ letters j (responseIn k)) where
-  group-found : (s : Server) (x : Option Connection) → LinesAlike (foundStands x) l k → isQueried (resultIn (lineFound s l x)) ≡ true
-      → octets j (responseFound l x) ≡ octets j (responseFound k x)
-  group-found s none h e = absurd (false≢true e)
-  group-found s (some c) h e =
+module _ (n : ℕ) (l k : List ℕ) (j : ℕ) (g : lettersOf j (responseIn l) ≡ lettersOf j (responseIn k)) where
+  octet-found : (s : Server) (x : Option Connection) → LinesAlike (foundStands x) l k → isQueried (resultIn (lineFound s l x)) ≡ true
+      → octetAt j (responseFound l x) ≡ octetAt j (responseFound k x)
+  octet-found s none h e = absurd (false≢true e)
+  octet-found s (some c) h e =
       let o = offered (s .mechanisms) (padded (mechanismText (view (c .session) l) l)) in
       let q = sym (queried-settled (lineStep s c l .answer) _ _ _) ∙ e in
-      groups (c .session) h (query-valid (view (c .session) l) l (s .header .ticket) (lineStep s c l .answer) (line-measures l (c .session) o (s .header .ticket)) q) j g
+      query-octet (c .session) h (query-valid (view (c .session) l) l (s .header .ticket) (lineStep s c l .answer) (line-measures l (c .session) o (s .header .ticket)) q) j g
 
-  group-lent : (o : Option Server) → LinesAlike (serverStands o n) l k → isQueried (resultIn (onLent o (Requests.line n l))) ≡ true
-      → octets j (responseLent o (Requests.line n l)) ≡ octets j (responseLent o (Requests.line n k))
+  octet-lent : (o : Option Server) → LinesAlike (serverStands o n) l k → isQueried (resultIn (onLent o (Requests.line n l))) ≡ true
+      → octetAt j (responseLent o (Requests.line n l)) ≡ octetAt j (responseLent o (Requests.line n k))
   unfolding on onLine responseOn
-  group-lent none h e = absurd (false≢true e)
-  group-lent (some s) h e = group-found s (found (isNumbered n) (s .slots)) h e
+  octet-lent none h e = absurd (false≢true e)
+  octet-lent (some s) h e = octet-found s (found (isNumbered n) (s .slots)) h e
 
 -- a call that was not refused for its buffers
 queried-long : (b : Bool) (o : Outcome) → isQueried (resultIn (cond b (refuses Refusals.ShortBuffer) o)) ≡ true → isQueried (resultIn o) ≡ true
@@ -133,30 +133,30 @@ module _ (i : Image) where
   requests (Secrecy.who x) e = refl
   requests Secrecy.close e = refl
 
-  group-line : (n : ℕ) (l k r q a b : List ℕ) → LinesAlike (seen i n) l k → outcome i (Calls.line n l r a) ≡ outcome i (Calls.line n k q b)
-      → (j : ℕ) → letters j (responseIn l) ≡ letters j (responseIn k)
+  octet-line : (n : ℕ) (l k r q a b : List ℕ) → LinesAlike (seen i n) l k → outcome i (Calls.line n l r a) ≡ outcome i (Calls.line n k q b)
+      → (j : ℕ) → lettersOf j (responseIn l) ≡ lettersOf j (responseIn k)
       → (t : Bool) → isQueried (resultIn (outcome i (Calls.line n l r a))) ≡ t
-      → octets j (handedBy (Calls.line n l r a) (outcome i (Calls.line n l r a))) ≡ octets j (handedBy (Calls.line n k q b) (outcome i (Calls.line n k q b)))
+      → octetAt j (handedBy (Calls.line n l r a) (outcome i (Calls.line n l r a))) ≡ octetAt j (handedBy (Calls.line n k q b) (outcome i (Calls.line n k q b)))
   unfolding outcome seen
-  group-line n l k r q a b h e j g false w = ap (octets j) (relayed (Calls.line n l r a) (Calls.line n k q b) e w)
-  group-line n l k r q a b h e j g true w =
+  octet-line n l k r q a b h e j g false w = ap (octetAt j) (relayed (Calls.line n l r a) (Calls.line n k q b) e w)
+  octet-line n l k r q a b h e j g true w =
       let u = ap (λ (o : Outcome). isQueried (resultIn o)) (sym e) ∙ w in
-      ap (λ (t : Bool). octets j (cond t (responseLent (taken i) (Requests.line n l)) (relayedIn (resultIn (outcome i (Calls.line n l r a)))))) w
-      ∙ group-lent n l k j g (taken i) h (queried-long (isShort (Calls.line n l r a)) (onLent (taken i) (Requests.line n l)) w)
-      ∙ sym (ap (λ (t : Bool). octets j (cond t (responseLent (taken i) (Requests.line n k)) (relayedIn (resultIn (outcome i (Calls.line n k q b)))))) u)
+      ap (λ (t : Bool). octetAt j (cond t (responseLent (taken i) (Requests.line n l)) (relayedIn (resultIn (outcome i (Calls.line n l r a)))))) w
+      ∙ octet-lent n l k j g (taken i) h (queried-long (isShort (Calls.line n l r a)) (onLent (taken i) (Requests.line n l)) w)
+      ∙ sym (ap (λ (t : Bool). octetAt j (cond t (responseLent (taken i) (Requests.line n k)) (relayedIn (resultIn (outcome i (Calls.line n k q b)))))) u)
 
-  group : {c d : Call} → CallsAlike (seen i) c d → (j : ℕ) → letters j (responseIn (lineIn c)) ≡ letters j (responseIn (lineIn d))
-      → octets j (handedBy c (outcome i c)) ≡ octets j (handedBy d (outcome i d))
-  group (Secrecy.make a) j g = refl
-  group Secrecy.add j g = refl
-  group Secrecy.opens j g = refl
-  group (Secrecy.line {n} {l} {k} {r} {q} {a} {b} h x y) j g =
-      group-line n l k r q a b h (outcomes i (Secrecy.line h x y)) j g (isQueried (resultIn (outcome i (Calls.line n l r a)))) refl
-  group (Secrecy.verdict {t} {v} {d} {r} {q} {a} {b} x y) j g =
-      ap (octets j) (same-request (Calls.verdict t v d r a) (Calls.verdict t v d q b) (outcomes i (Secrecy.verdict x y)) refl)
-  group Secrecy.mailEnded j g = refl
-  group (Secrecy.who {n} {b} {a} x) j g = ap (octets j) (same-request (Calls.who n b) (Calls.who n a) (outcomes i (Secrecy.who x)) refl)
-  group Secrecy.close j g = refl
+  octet : {c d : Call} → CallsAlike (seen i) c d → (j : ℕ) → lettersOf j (responseIn (lineIn c)) ≡ lettersOf j (responseIn (lineIn d))
+      → octetAt j (handedBy c (outcome i c)) ≡ octetAt j (handedBy d (outcome i d))
+  octet (Secrecy.make a) j g = refl
+  octet Secrecy.add j g = refl
+  octet Secrecy.opens j g = refl
+  octet (Secrecy.line {n} {l} {k} {r} {q} {a} {b} h x y) j g =
+      octet-line n l k r q a b h (outcomes i (Secrecy.line h x y)) j g (isQueried (resultIn (outcome i (Calls.line n l r a)))) refl
+  octet (Secrecy.verdict {t} {v} {d} {r} {q} {a} {b} x y) j g =
+      ap (octetAt j) (same-request (Calls.verdict t v d r a) (Calls.verdict t v d q b) (outcomes i (Secrecy.verdict x y)) refl)
+  octet Secrecy.mailEnded j g = refl
+  octet (Secrecy.who {n} {b} {a} x) j g = ap (octetAt j) (same-request (Calls.who n b) (Calls.who n a) (outcomes i (Secrecy.who x)) refl)
+  octet Secrecy.close j g = refl
 
   agrees : {c d : Call} → CallsAlike (seen i) c d → Agree c d (step i c) (step i d)
   unfolding step
@@ -167,7 +167,7 @@ module _ (i : Image) where
         image = ap (imageIn i) e;
         relayed = relayed c d e;
         query = λ l. same-request c d e (requests h l);
-        group = group h;
+        octet = octet h;
       }
 
 -- ---- two lists

@@ -4,7 +4,7 @@
 use mathlib.Core.Path.{_≡_}
 use mathlib.Core.Bool.{Bool, false, cond, _&&_}
 use mathlib.Core.List.{List, [], _∷_}
-use Prim.Native.Nat.{ℕ, _*_}
+use Prim.Native.Nat.{ℕ, _+_, _/_}
 use lib.ListN.{length, take, drop}
 use Rattle.octets.specs.Ascii.{ascii, capitals, space}
 use Rattle.octets.specs.Lists.{holds, same, before, after}
@@ -58,12 +58,14 @@ hasInitial l = same (capitals (before space l)) (ascii "AUTH") && (holds space l
 unfoldable pub responseIn : List ℕ → List ℕ
 responseIn l = cond (hasInitial l) (after space (after space l)) l
 
--- four letters of base64 stand for three octets
-abbrev pub letters : ℕ → List ℕ → List ℕ
-letters k l = take 4 (drop (4 * k) l)
+-- RFC 4648 section 4: three octets are four letters, six bits to a letter, so an octet is held by two letters side by side. Counted from 0,
+-- octet 3k + i is held by letters 4k + i and 4k + i + 1, for i of 0, 1 and 2: of octet j, those from index j + j / 3 on
+abbrev pub lettersOf : ℕ → List ℕ → List ℕ
+lettersOf j l = take 2 (drop (j + j / 3) l)
 
-abbrev pub octets : ℕ → List ℕ → List ℕ
-octets k l = take 3 (drop (3 * k) l)
+-- octet j of some octets, counted from 0: a list of one, or of none where there are no more than j
+abbrev pub octetAt : ℕ → List ℕ → List ℕ
+octetAt j l = take 1 (drop j l)
 
 -- "Equal are each refusal, each answer's kind, numbers, lengths and identity, whether a question only starts an exchange, signed in or not, the
 -- octets of reply and name, MAIL's octets in the answer buffer, and the whole image. A question's octets in the answer buffer may differ only
@@ -73,7 +75,7 @@ pub record Agree (c d : Call) (o p : Out) : Type 0 where
   pub image : o .image ≡ p .image
   pub relayed : isQueried (o .result) ≡ false → o .handed ≡ p .handed
   pub query : lineIn c ≡ lineIn d → o .handed ≡ p .handed
-  pub group : (k : ℕ) → letters k (responseIn (lineIn c)) ≡ letters k (responseIn (lineIn d)) → octets k (o .handed) ≡ octets k (p .handed)
+  pub octet : (j : ℕ) → lettersOf j (responseIn (lineIn c)) ≡ lettersOf j (responseIn (lineIn d)) → octetAt j (o .handed) ≡ octetAt j (p .handed)
 
 pub data AgreeAll : List Call → List Call → List Out → List Out → Type 0 where
   none : AgreeAll [] [] [] []
