@@ -19,4 +19,5 @@ pub mod Voids
 pub mod Names
 pub mod Relays
 pub mod Sessions
+pub mod Exchanges
 pub mod Witnesses

@@ -1,6 +1,6 @@
 -- What holds of every session after a verdict, case by case. Assumes nothing.
 use mathlib.Core.Path.{_≡_, refl, sym, _∙_, ap}
-use mathlib.Core.Bool.{Bool, true, false, cond, not, _&&_, false≢true}
+use mathlib.Core.Bool.{Bool, true, false, cond, not, _&&_, _||_, false≢true}
 use mathlib.Core.List.{List, [], _∷_}
 use mathlib.Core.Option.{none, some}
 use Prim.Native.Nat.{ℕ, _+_, _≤_}
@@ -45,6 +45,7 @@ pub record Judged (s : Session) (g : Bool) (d : List ℕ) (r : Stepped) : Type 0
   pub refused : isRefused (r .answer) ≡ true → r .session ≡ s
   -- whom the session bears: g, whether the verdict signs somebody in
   pub borne : bears (r .session) ≡ cond g (some d) (bears s)
+  pub signed : signedIn (r .session .phase) ≡ (g || signedIn (s .phase))
   -- all but the name and the phase stay; the name too where the verdict signs nobody in
   pub greeted : r .session .greeted ≡ s .greeted
   pub transaction : r .session .transaction ≡ s .transaction
@@ -60,6 +61,7 @@ module _ (s : Session) (d : List ℕ) where
         stands = refl;
         refused = λ e. refl;
         borne = refl;
+        signed = refl;
         greeted = refl;
         transaction = refl;
         profile = refl;
@@ -71,6 +73,9 @@ module _ (s : Session) (d : List ℕ) where
   module _ (t k : ℕ) (e : s .phase ≡ Phases.Waiting t k) where
     nobody : bears s ≡ none
     nobody = ap (λ (p : Phase). cond (signedIn p) (some (nameOf s)) none) e
+
+    unsigned : signedIn (s .phase) ≡ false
+    unsigned = ap signedIn e
 
     -- what the limits say of a session that waits: of its count, and of its name
     sent : wellFormed s ≡ true → leb k 16 ≡ true
@@ -89,6 +94,7 @@ module _ (s : Session) (d : List ℕ) where
           stands = refl;
           refused = λ f. absurd (false≢true f);
           borne = sym nobody;
+          signed = sym unsigned;
           greeted = refl;
           transaction = refl;
           profile = refl;
@@ -108,6 +114,7 @@ module _ (s : Session) (d : List ℕ) where
               stands = refl;
               refused = λ f. absurd (false≢true f);
               borne = sym nobody;
+              signed = sym unsigned;
               greeted = refl;
               transaction = refl;
               profile = refl;
@@ -124,6 +131,7 @@ module _ (s : Session) (d : List ℕ) where
           stands = refl;
           refused = λ f. absurd (false≢true f);
           borne = ap some (name-kept s d h);
+          signed = refl;
           greeted = refl;
           transaction = refl;
           profile = refl;

@@ -46,8 +46,8 @@ pub use Rattle.session.proofs.Views.{Seen, same-view}
 pub use Rattle.session.proofs.Relayed.{line-says}
 -- what an answer says of a line's octets is so
 pub use Rattle.session.proofs.Measures.{line-measures}
--- "A failed exchange leaves greeting, transaction and name as they were before AUTH."
-pub use Rattle.session.proofs.Exchanges.{failed-keeps}
+-- an exchange leaves greeting and transaction as they were, and the name unless it signs somebody in; a line whose verb is AUTH begins one
+pub use Rattle.session.proofs.Exchanges.{exchange-keeps, auth-begins}
 -- a name that was kept is read back
 pub use Rattle.session.proofs.Judged.{name-kept}
 

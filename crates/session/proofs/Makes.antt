@@ -38,6 +38,7 @@ use Rattle.session.specs.Auth.{wrongMoment, available, clientFirst, alon
 use Rattle.session.specs.Mail.{relays, isVouched, begins, onMail}
 use Rattle.session.specs.Command.{onCommand}
 use Rattle.session.specs.Response.{onResponse}
+use Rattle.session.specs.Exchange.{mayBegin}
 use Rattle.session.specs.Line.{atRest, awaiting, onLine}
 use Rattle.session.specs.Standing.{quiet, standing}
 use Rattle.session.specs.WellFormed.{sentWithin}
@@ -94,29 +95,12 @@ isOfLine Refusals.TableFull = false
 isOfLine Refusals.Sealed = false
 isOfLine Refusals.NotTaken = false
 
-abbrev isAuthCommand : Command → Bool
-isAuthCommand Commands.NotUnderstood = false
-isAuthCommand Commands.Malformed = false
-isAuthCommand Commands.Ehlo = false
-isAuthCommand Commands.Helo = false
-isAuthCommand Commands.Rset = false
-isAuthCommand Commands.Quit = false
-isAuthCommand (Commands.Mail m) = false
-isAuthCommand (Commands.Auth a) = true
-isAuthCommand Commands.Barred = false
-isAuthCommand Commands.Other = false
-
-abbrev pub isAuth : View → Bool
-isAuth (Views.Command c) = isAuthCommand c
-isAuth (Views.Response r) = false
-isAuth Views.Unread = false
-
 -- t: the ticket handed in
 pub data Makes (s : Session) (v : View) (t : ℕ) : Change → Type 0 where
   refused : (r : Refusal) → isOfLine r ≡ true → Makes s v t (refuses s r)
   replied : standing (s .phase) ≡ quiet → (r : Reply) → Makes s v t (says s r)
   failed : signedIn (s .phase) ≡ false → (r : Reply) → Makes s v t (fails s r)
-  forwarded : standing (s .phase) ≡ quiet → isAuth v ≡ false → (g x : Bool) (i : Identity) (n : ℕ) → Told v i n → Vouched (signedIn (s .phase)) i
+  forwarded : standing (s .phase) ≡ quiet → mayBegin v ≡ false → (g x : Bool) (i : Identity) (n : ℕ) → Told v i n → Vouched (signedIn (s .phase)) i
       → Makes s v t (record { greeted = g; transaction = x; phase = s .phase; answer = Answers.Forward i n })
   challenged : signedIn (s .phase) ≡ false → Makes s v t (moves s (Phases.Awaiting 1) Answers.EmptyChallenge)
   asked : eqb t unissued ≡ false → signedIn (s .phase) ≡ false → (k : ℕ) → (sentWithin (s .phase) ≡ true → leb k mostChallenges ≡ true) → (b : Bool) (n : ℕ)
@@ -133,7 +117,7 @@ module _ (s : Session) (t : ℕ) where
 
   -- where no exchange runs
   module _ (q : standing (s .phase) ≡ quiet) where
-    relaying : (v : View) (i : Identity) (n : ℕ) → isAuth v ≡ false → Told v i n → Makes s v t (relays s i n)
+    relaying : (v : View) (i : Identity) (n : ℕ) → mayBegin v ≡ false → Told v i n → Makes s v t (relays s i n)
     relaying v i n a h = go (signedIn (s .phase)) refl
       where
         go : (b : Bool) → signedIn (s .phase) ≡ b
