@@ -6,12 +6,9 @@ use mathlib.Core.Option.{Option, none, some}
 use Prim.Native.Nat.{ℕ}
 use native.Mathlib.Omega.{arith}
 use Rattle.profile.specs.declared.numbers.Identity.{Identity}
-use Rattle.profile.specs.declared.numbers.Identity.the-variants as Identities
 use Rattle.profile.specs.declared.numbers.Refusal.the-variants as Refusals
-use Rattle.mail.specs.Says as Say
-use Rattle.mail.specs.Says.{lineSays}
 use Rattle.lines.specs.Mechanism.{padded}
-use Rattle.session.specs.Mail.{isVouched}
+use Rattle.session.specs.Relayed.{isVouched}
 use Rattle.session.specs.Octets.{mechanismText, relayOctets}
 use Rattle.session.specs.Session.{nameOf}
 use Rattle.session.specs.View.{view}
@@ -32,6 +29,7 @@ use Rattle.image.specs.Image.{Image}
 use Rattle.calls.specs.Call.{line, request, isShort}
 use Rattle.calls.specs.Step.{lent, onLent, outcome, resultIn, responseLent, isQueried, relayedIn, outOf, step}
 use Rattle.claims.specs.Relays.{RelaysGranted, RelaysSaid}
+use Rattle.claims.proofs.Others.{has-taken}
 use Rattle.claims.proofs.Turns.{heldBy, heldAt, heldName}
 use Rattle.claims.proofs.Served.{gives-nothing, all-listed, by-list}
 use Rattle.claims.proofs.Grants.{bears-granted}
@@ -97,17 +95,22 @@ relays-granted i c t cs q m n k j l r a x y v e =
     (λ s. let w = relays-named _ (s .server) (s .taken) n k j l r a x y v e in (w .0, bears-granted (s .served) n (w .0) (w .1)))
     (λ u. absurd (gives-nothing u (line n l r a) refl (answered (Answers.Forward j k) x y) e refl))
 
--- ---- which octets
+-- ---- with what
 
-handed-over : (i : Image) (q : Request) (o : Outcome) (k : ℕ) (x y : List ℕ) → resultIn o ≡ answered (Answers.Forward Identities.Address k) x y
+handed-over : (i : Image) (q : Request) (o : Outcome) (j : Identity) (k : ℕ) (x y : List ℕ) → resultIn o ≡ answered (Answers.Forward j k) x y
     → outOf i q o .handed ≡ y
-handed-over i q o k x y e = ap (λ (r : Result). cond (isQueried r) (responseLent (lent i q) q) (relayedIn r)) e
+handed-over i q o j k x y e = ap (λ (r : Result). cond (isQueried r) (responseLent (lent i q) q) (relayedIn r)) e
 
 pub relays-said : RelaysSaid
 unfolding step
-relays-said i n k l r a x y e =
-    let p = passed i n l Identities.Address k x y r a e in
+relays-said i n k j l r a x y m e =
+    let p = passed i n l j k x y r a e in
     let c = p .connection in
-    let z = ap (λ (b : Answer). cond (relaysAddress b) (relayOctets (view (c .session) l) l) []) (p .answer) in
-    let f = handed-over i (request (line n l r a)) (outcome i (line n l r a)) k x y e in
-    (f, line-says l (c .session) (offer (p .server) c l) (p .server .header .ticket) k (p .answer) ∙ ap Say.address (sym z ∙ p .octets))
+    let octets = ap (λ (b : Answer). cond (relaysAddress b) (relayOctets (view (c .session) l) l) []) (sym (p .answer)) ∙ p .octets in
+    let said = line-says l (c .session) (offer (p .server) c l) (p .server .header .ticket) j k m (p .answer) in
+    record {
+      connection = c;
+      found = has-taken i (p .server) n (p .taken) ∙ p .found;
+      said = ap (λ (z : List ℕ). (j, z)) (sym octets) ∙ said;
+      handed = handed-over i (request (line n l r a)) (outcome i (line n l r a)) j k x y e;
+    }

@@ -7,12 +7,11 @@ use mathlib.Core.List.{List, []}
 use mathlib.Core.Option.{Option, none, some}
 use Prim.Native.Nat.{ℕ, _+_}
 use Rattle.lines.specs.Mechanism.{padded}
-use Rattle.profile.specs.declared.numbers.Identity.{Identity}
-use Rattle.profile.specs.declared.numbers.Identity.the-variants as Identities
 use Rattle.profile.specs.declared.numbers.Refusal.the-variants.{NoConnection}
 use Rattle.session.specs.Answer.{heard}
 use Rattle.session.specs.Line.{afterLine}
 use Rattle.session.specs.Octets.{mechanismText, queryOctets, relayOctets}
+pub use Rattle.session.specs.Relayed.{isAddress}
 use Rattle.session.specs.View.{view}
 use Rattle.session.specs.declared.Stepped.{Stepped}
 use Rattle.session.specs.declared.answer.Answer.{Answer}
@@ -32,12 +31,6 @@ isQuery (Answers.Query t b n) = true
 isQuery (Answers.Reply e) = false
 isQuery Answers.EmptyChallenge = false
 isQuery Answers.Challenge = false
-
-abbrev pub isAddress : Identity → Bool
-isAddress Identities.NoMail = false
-isAddress Identities.Null = false
-isAddress Identities.Absent = false
-isAddress Identities.Address = true
 
 abbrev pub relaysAddress : Answer → Bool
 relaysAddress (Answers.Refused r) = false

@@ -14,7 +14,6 @@ use Rattle.base64.proofs.Laws.{length-encode}
 use Rattle.profile.specs.Texts.{isChallenge}
 use Rattle.profile.specs.declared.Profile.{Profile}
 use Rattle.profile.specs.declared.Profile.the-variants.{Smtp, Pop3}
-use Rattle.profile.specs.declared.numbers.Identity.{Identity}
 use Rattle.profile.specs.declared.numbers.Refusal.{Refusal}
 use Rattle.profile.specs.declared.numbers.Verdict.{Verdict}
 use Rattle.profile.proofs.Laws.{not-challenge, challenge-begins, reply-length}
@@ -29,21 +28,20 @@ use Rattle.session.specs.declared.Phase.{Phase}
 use Rattle.session.specs.declared.Phase.the-variants as Phases
 use Rattle.session.specs.Answer.{challenge, heard, isChallengeAnswer}
 use Rattle.session.specs.Line.{afterLine}
-use Rattle.session.specs.Mail.{isVouched}
 use Rattle.session.specs.Verdict.{graphic, isName, given, afterVerdict}
 use Rattle.session.specs.MailEnded.{afterMail}
 use Rattle.session.specs.Standing.{quiet, standing, stands, isHeard, isRefused}
 use Rattle.session.specs.Named.{bears, waitsOn, grants}
 use Rattle.session.specs.WellFormed.{nameWithin, wellFormed}
-use Rattle.session.proofs.Makes.{Vouched, makes}
+use Rattle.session.proofs.Makes.{makes}
 pub use Rattle.session.proofs.Within.{session-parts}
 pub use Rattle.session.proofs.Makes.{isOfLine}
 use Rattle.session.proofs.Sound.{sound}
 use Rattle.session.proofs.Judged.{verdicts, heard-or-refused, heard-short}
 -- a step depends on the view of a line alone, and lines that are alike are seen alike
 pub use Rattle.session.proofs.Views.{Seen, same-view}
--- the octets that a MAIL line hands on are what its AUTH says
-pub use Rattle.session.proofs.Relayed.{line-says}
+-- a MAIL is passed on with what its AUTH says, and with an identity other than "<>" for who is signed in alone
+pub use Rattle.session.proofs.Relayed.{line-says, line-relays}
 -- what an answer says of a line's octets is so
 pub use Rattle.session.proofs.Measures.{line-measures}
 -- an exchange leaves greeting and transaction as they were, and the name unless it signs somebody in; a line whose verb is AUTH begins one
@@ -66,11 +64,6 @@ module _ (s : Session) (v : View) (o : Offer) (t : ℕ) where
   pub line-bears : bears (afterLine s v o t .session) ≡ bears s
   unfolding afterLine nameOf
   line-bears = ap (λ (b : Bool). cond b (some (nameOf s)) none) (sound (makes s t v o) .signed)
-
-  -- an identity other than "<>" is relayed for who is signed in
-  pub line-relays : (i : Identity) (n : ℕ) → isVouched i ≡ true → afterLine s v o t .answer ≡ Answers.Forward i n → signedIn (s .phase) ≡ true
-  unfolding afterLine
-  line-relays i n h e = let vouched : Vouched (signedIn (s .phase)) i = rw e at (sound (makes s t v o) .relays) in vouched h
 
   -- a line is refused with 3 or 7 alone
   pub line-refusals : (k : Refusal) → afterLine s v o t .answer ≡ Answers.Refused k → isOfLine k ≡ true

@@ -35,7 +35,7 @@ use Rattle.session.specs.Change.{moves, says, refuses, fails}
 use Rattle.session.specs.Limits.{mostChallenges, unissued}
 use Rattle.session.specs.Query.{asks}
 use Rattle.session.specs.Auth.{wrongMoment, available, clientFirst, alone, withInitial, timely, onAuth}
-use Rattle.session.specs.Mail.{relays, isVouched, begins, onMail}
+use Rattle.session.specs.Mail.{relays, begins, onMail}
 use Rattle.session.specs.Command.{onCommand}
 use Rattle.session.specs.Response.{onResponse}
 use Rattle.session.specs.Exchange.{mayBegin}
@@ -76,9 +76,12 @@ Told v Identities.Null n = n ≡ 0
 Told v Identities.Absent n = n ≡ 0
 Told v Identities.Address n = addressLength v ≡ some n
 
--- b: whether somebody is signed in
-abbrev pub Vouched : Bool → Identity → Type 0
-Vouched b i = isVouched i ≡ true → b ≡ true
+-- the identity to relay of a reading; b: whether somebody is signed in
+abbrev pub identityIn : Bool → Mail → Identity
+identityIn b Mails.Malformed = Identities.NoMail
+identityIn b Mails.Absent = cond b Identities.Absent Identities.Null
+identityIn b Mails.Null = Identities.Null
+identityIn b (Mails.Address from to n) = cond b Identities.Address Identities.Null
 
 -- 3 and 7: the refusals that a line may get from its session
 abbrev pub isOfLine : Refusal → Bool
@@ -100,7 +103,8 @@ pub data Makes (s : Session) (v : View) (t : ℕ) : Change → Type 0 where
   refused : (r : Refusal) → isOfLine r ≡ true → Makes s v t (refuses s r)
   replied : standing (s .phase) ≡ quiet → (r : Reply) → Makes s v t (says s r)
   failed : signedIn (s .phase) ≡ false → (r : Reply) → Makes s v t (fails s r)
-  forwarded : standing (s .phase) ≡ quiet → mayBegin v ≡ false → (g x : Bool) (i : Identity) (n : ℕ) → Told v i n → Vouched (signedIn (s .phase)) i
+  forwarded : standing (s .phase) ≡ quiet → mayBegin v ≡ false → (g x : Bool) (i : Identity) (n : ℕ) → Told v i n
+      → i ≡ identityIn (signedIn (s .phase)) (mailIn v)
       → Makes s v t (record { greeted = g; transaction = x; phase = s .phase; answer = Answers.Forward i n })
   challenged : signedIn (s .phase) ≡ false → Makes s v t (moves s (Phases.Awaiting 1) Answers.EmptyChallenge)
   asked : eqb t unissued ≡ false → signedIn (s .phase) ≡ false → (k : ℕ) → (sentWithin (s .phase) ≡ true → leb k mostChallenges ≡ true) → (b : Bool) (n : ℕ)
@@ -117,19 +121,24 @@ module _ (s : Session) (t : ℕ) where
 
   -- where no exchange runs
   module _ (q : standing (s .phase) ≡ quiet) where
-    relaying : (v : View) (i : Identity) (n : ℕ) → mayBegin v ≡ false → Told v i n → Makes s v t (relays s i n)
-    relaying v i n a h = go (signedIn (s .phase)) refl
+    relaying : (v : View) (i : Identity) (n : ℕ) → mayBegin v ≡ false → Told v i n → ((b : Bool) → identityIn b (mailIn v) ≡ cond b i Identities.Null)
+        → Makes s v t (relays s i n)
+    relaying v i n a h w = go (signedIn (s .phase)) refl
       where
         go : (b : Bool) → signedIn (s .phase) ≡ b
             → Makes s v t (record { greeted = s .greeted; transaction = true; phase = s .phase; answer = cond b (Answers.Forward i n) (Answers.Forward Identities.Null 0) })
-        go true e = forwarded q a (s .greeted) true i n h (λ x. e)
-        go false e = forwarded q a (s .greeted) true Identities.Null 0 refl (λ x. absurd (false≢true x))
+        go true e = forwarded q a (s .greeted) true i n h (sym (ap (λ (b : Bool). identityIn b (mailIn v)) e ∙ w true))
+        go false e = forwarded q a (s .greeted) true Identities.Null 0 refl (sym (ap (λ (b : Bool). identityIn b (mailIn v)) e ∙ w false))
+
+    same : (b : Bool) → cond b Identities.Null Identities.Null ≡ Identities.Null
+    same true = refl
+    same false = refl
 
     beginning : (m : Mail) → Makes s (Views.Command (Commands.Mail m)) t (begins s m)
     beginning Mails.Malformed = replied q Replies.Syntax
-    beginning Mails.Absent = relaying (Views.Command (Commands.Mail Mails.Absent)) Identities.Absent 0 refl refl
-    beginning Mails.Null = relaying (Views.Command (Commands.Mail Mails.Null)) Identities.Null 0 refl refl
-    beginning (Mails.Address from to n) = relaying (Views.Command (Commands.Mail (Mails.Address from to n))) Identities.Address n refl refl
+    beginning Mails.Absent = relaying (Views.Command (Commands.Mail Mails.Absent)) Identities.Absent 0 refl refl (λ b. refl)
+    beginning Mails.Null = relaying (Views.Command (Commands.Mail Mails.Null)) Identities.Null 0 refl refl (λ b. sym (same b))
+    beginning (Mails.Address from to n) = relaying (Views.Command (Commands.Mail (Mails.Address from to n))) Identities.Address n refl refl (λ b. refl)
 
     mailing : (m : Mail) → Makes s (Views.Command (Commands.Mail m)) t (onMail s m)
     unfolding onMail
@@ -164,14 +173,14 @@ module _ (s : Session) (t : ℕ) where
     unfolding onCommand
     commanding Commands.NotUnderstood o = replied q Replies.NotUnderstood
     commanding Commands.Malformed o = replied q Replies.Syntax
-    commanding Commands.Ehlo o = forwarded q refl true false Identities.NoMail 0 refl (λ x. absurd (false≢true x))
-    commanding Commands.Helo o = forwarded q refl false false Identities.NoMail 0 refl (λ x. absurd (false≢true x))
-    commanding Commands.Rset o = forwarded q refl (s .greeted) false Identities.NoMail 0 refl (λ x. absurd (false≢true x))
-    commanding Commands.Quit o = forwarded q refl (s .greeted) (s .transaction) Identities.NoMail 0 refl (λ x. absurd (false≢true x))
+    commanding Commands.Ehlo o = forwarded q refl true false Identities.NoMail 0 refl refl
+    commanding Commands.Helo o = forwarded q refl false false Identities.NoMail 0 refl refl
+    commanding Commands.Rset o = forwarded q refl (s .greeted) false Identities.NoMail 0 refl refl
+    commanding Commands.Quit o = forwarded q refl (s .greeted) (s .transaction) Identities.NoMail 0 refl refl
     commanding (Commands.Mail m) o = mailing m
     commanding (Commands.Auth a) o = authorising a o
     commanding Commands.Barred o = replied q Replies.WrongMoment
-    commanding Commands.Other o = forwarded q refl (s .greeted) (s .transaction) Identities.NoMail 0 refl (λ x. absurd (false≢true x))
+    commanding Commands.Other o = forwarded q refl (s .greeted) (s .transaction) Identities.NoMail 0 refl refl
 
     resting : (v : View) (o : Offer) → Makes s v t (atRest s v o t)
     resting (Views.Command c) o = commanding c o

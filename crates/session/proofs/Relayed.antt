@@ -1,13 +1,12 @@
--- The octets that a MAIL line hands on are what its AUTH says. Assumes nothing.
+-- A MAIL line is passed on with what its AUTH says. Assumes nothing.
 use mathlib.Core.Path.{_≡_, refl, sym, ap, _∙_}
-use mathlib.Core.List.{List}
-use mathlib.Core.Option.{Option, none, some}
+use mathlib.Core.Bool.{Bool, true, false, cond, false≢true}
+use mathlib.Core.List.{List, []}
 use Prim.Native.Nat.{ℕ}
-use native.Mathlib.Omega.{arith}
+use Rattle.xtext.specs.Xtext as Xtext
 use Rattle.profile.specs.declared.Profile.{Profile}
-use Rattle.profile.specs.declared.numbers.Identity.the-variants as Identities
-use Rattle.mail.specs.Mail.{mail}
-use Rattle.mail.specs.Says as Say
+use Rattle.profile.specs.declared.numbers.Identity.{Identity}
+use Rattle.mail.specs.Mail.{mail, addressText}
 use Rattle.mail.specs.Says.{lineSays, pointsTo}
 use Rattle.mail.specs.declared.Mail.{Mail}
 use Rattle.mail.specs.declared.Mail.the-variants as Mails
@@ -24,60 +23,77 @@ use Rattle.session.specs.declared.change.Change.{Change}
 use Rattle.session.specs.declared.view.Offer.{Offer}
 use Rattle.session.specs.declared.view.View.{View}
 use Rattle.session.specs.declared.view.View.the-variants as Views
-use Rattle.session.specs.View.{viewIn, view}
-use Rattle.session.specs.Octets.{relayOctets}
 use Rattle.session.specs.Line.{afterLine}
-use Rattle.session.proofs.Makes.{addressLength, Told, Makes, refused, replied, failed, forwarded, challenged, asked, makes}
+use Rattle.session.specs.Octets.{mailIn, relayOctets}
+use Rattle.session.specs.Relayed.{isMail, isVouched, isAddress, relayOf}
+use Rattle.session.specs.Session.{signedIn}
+use Rattle.session.specs.View.{viewIn, view}
+use Rattle.session.proofs.Makes.{identityIn, Makes, refused, replied, failed, forwarded, challenged, asked, makes}
 
-never : {n : ℕ} → _≡_ {A = Option ℕ} none (some n) → ⊥
-never e = let z : _≡_ {A = ℕ} 0 1 = cc in omega arith
+-- the identity that a line is passed on with is that of its reading
+told-identity : {s : Session} {v : View} {t : ℕ} {c : Change} → Makes s v t c → (i : Identity) (n : ℕ) → c .answer ≡ Answers.Forward i n
+    → i ≡ identityIn (signedIn (s .phase)) (mailIn v)
+told-identity (refused r u) i n e = cc
+told-identity (replied q r) i n e = cc
+told-identity (failed u r) i n e = cc
+told-identity (forwarded q a g x j m w u) i n e = let k : j ≡ i = cc in sym k ∙ u
+told-identity (challenged u) i n e = cc
+told-identity (asked j u k f b m z w) i n e = cc
 
--- an address is told of a view that has one
-told-address : {s : Session} {v : View} {t : ℕ} {c : Change} → Makes s v t c → (n : ℕ) → c .answer ≡ Answers.Forward Identities.Address n
-    → addressLength v ≡ some n
-told-address (refused r u) n e = cc
-told-address (replied q r) n e = cc
-told-address (failed u r) n e = cc
-told-address {v = v} (forwarded q a g x i m w u) n e =
-    let j : i ≡ Identities.Address = cc in
-    let k : m ≡ n = cc in
-    let h : Told v Identities.Address m = rw j at w in
-    h ∙ ap some k
-told-address (challenged u) n e = cc
-told-address (asked i u k f b m z w) n e = cc
-
+-- and so is what the reading points to
 module _ (l : List ℕ) where
-  abbrev Saying : View → Type 0
-  Saying v = (n : ℕ) → addressLength v ≡ some n → lineSays l ≡ Say.address (relayOctets v l)
+  relayed : (b : Bool) (m : Mail) → isMail (identityIn b m) ≡ true
+      → (identityIn b m, cond (isAddress (identityIn b m)) (Xtext.octets (addressText m l)) []) ≡ relayOf b (pointsTo m l)
+  relayed b Mails.Malformed e = absurd (false≢true e)
+  relayed true Mails.Absent e = refl
+  relayed false Mails.Absent e = refl
+  relayed b Mails.Null e = refl
+  relayed true (Mails.Address from to n) e = refl
+  relayed false (Mails.Address from to n) e = refl
 
-  mail-saying : (m : Mail) → m ≡ mail l → Saying (Views.Command (Commands.Mail m))
-  unfolding relayOctets
-  mail-saying Mails.Malformed e n f = absurd (never f)
-  mail-saying Mails.Absent e n f = absurd (never f)
-  mail-saying Mails.Null e n f = absurd (never f)
-  mail-saying (Mails.Address from to m) e n f = sym (mail-says l) ∙ ap (λ (x : Mail). pointsTo x l) (sym e)
+  -- a reading that is passed on as a MAIL is of the line
+  abbrev Pointed : View → Type 0
+  Pointed v = (b : Bool) → isMail (identityIn b (mailIn v)) ≡ true → pointsTo (mailIn v) l ≡ lineSays l
 
-  command-saying : (p : Profile) (c : Command) → Holds p l c → Saying (Views.Command c)
-  command-saying p Commands.NotUnderstood h n f = absurd (never f)
-  command-saying p Commands.Malformed h n f = absurd (never f)
-  command-saying p Commands.Ehlo h n f = absurd (never f)
-  command-saying p Commands.Helo h n f = absurd (never f)
-  command-saying p Commands.Rset h n f = absurd (never f)
-  command-saying p Commands.Quit h n f = absurd (never f)
-  command-saying p (Commands.Mail m) h n f = mail-saying m (h .0) n f
-  command-saying p (Commands.Auth a) h n f = absurd (never f)
-  command-saying p Commands.Barred h n f = absurd (never f)
-  command-saying p Commands.Other h n f = absurd (never f)
+  command-pointed : (p : Profile) (c : Command) → Holds p l c → Pointed (Views.Command c)
+  command-pointed p Commands.NotUnderstood h b e = absurd (false≢true e)
+  command-pointed p Commands.Malformed h b e = absurd (false≢true e)
+  command-pointed p Commands.Ehlo h b e = absurd (false≢true e)
+  command-pointed p Commands.Helo h b e = absurd (false≢true e)
+  command-pointed p Commands.Rset h b e = absurd (false≢true e)
+  command-pointed p Commands.Quit h b e = absurd (false≢true e)
+  command-pointed p (Commands.Mail m) h b e = ap (λ (x : Mail). pointsTo x l) (h .0) ∙ mail-says l
+  command-pointed p (Commands.Auth a) h b e = absurd (false≢true e)
+  command-pointed p Commands.Barred h b e = absurd (false≢true e)
+  command-pointed p Commands.Other h b e = absurd (false≢true e)
 
-  view-saying : (p : Profile) (q : Phase) → Saying (viewIn p q l)
+  view-pointed : (p : Profile) (q : Phase) → Pointed (viewIn p q l)
   unfolding viewIn
-  view-saying p Phases.Idle n f = command-saying p (command p l) (command-read l p) n f
-  view-saying p Phases.SignedIn n f = command-saying p (command p l) (command-read l p) n f
-  view-saying p (Phases.Awaiting k) n f = absurd (never f)
-  view-saying p (Phases.Waiting t k) n f = absurd (never f)
+  view-pointed p Phases.Idle b e = command-pointed p (command p l) (command-read l p) b e
+  view-pointed p Phases.SignedIn b e = command-pointed p (command p l) (command-read l p) b e
+  view-pointed p (Phases.Awaiting k) b e = absurd (false≢true e)
+  view-pointed p (Phases.Waiting t k) b e = absurd (false≢true e)
 
-  -- document 01, "Base64, xtext and MAIL": what is relayed is the decoded AUTH, whatever else the line has
-  pub line-says : (s : Session) (o : Offer) (t n : ℕ) → afterLine s (view s l) o t .answer ≡ Answers.Forward Identities.Address n
-      → lineSays l ≡ Say.address (relayOctets (view s l) l)
-  unfolding afterLine
-  line-says s o t n e = view-saying (s .profile) (s .phase) n (told-address (makes s t (view s l) o) n e)
+  -- identity and octets of a MAIL that is passed on
+  pub line-says : (s : Session) (o : Offer) (t : ℕ) (i : Identity) (n : ℕ) → isMail i ≡ true → afterLine s (view s l) o t .answer ≡ Answers.Forward i n
+      → (i, cond (isAddress i) (relayOctets (view s l) l) []) ≡ relayOf (signedIn (s .phase)) (lineSays l)
+  unfolding afterLine relayOctets
+  line-says s o t i n h e =
+      let b = signedIn (s .phase) in
+      let u = told-identity (makes s t (view s l) o) i n e in
+      let k = sym (ap isMail u) ∙ h in
+      ap (λ (j : Identity). (j, cond (isAddress j) (relayOctets (view s l) l) [])) u
+      ∙ relayed b (mailIn (view s l)) k
+      ∙ ap (relayOf b) (view-pointed (s .profile) (s .phase) b k)
+
+vouched : (b : Bool) (m : Mail) → isVouched (identityIn b m) ≡ true → b ≡ true
+vouched true m e = refl
+vouched false Mails.Malformed e = absurd (false≢true e)
+vouched false Mails.Absent e = absurd (false≢true e)
+vouched false Mails.Null e = absurd (false≢true e)
+vouched false (Mails.Address from to n) e = absurd (false≢true e)
+
+pub line-relays : (s : Session) (v : View) (o : Offer) (t : ℕ) (i : Identity) (n : ℕ) → isVouched i ≡ true → afterLine s v o t .answer ≡ Answers.Forward i n
+    → signedIn (s .phase) ≡ true
+unfolding afterLine
+line-relays s v o t i n h e = vouched (signedIn (s .phase)) (mailIn v) (sym (ap isVouched (told-identity (makes s t v o) i n e)) ∙ h)

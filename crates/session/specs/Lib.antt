@@ -17,6 +17,7 @@ pub mod WellFormed
 -- and those that its laws cite besides.
 pub mod Standing
 pub mod Named
+pub mod Relayed
 pub mod Measures
 pub mod Exchange
 pub mod Alike

@@ -1,5 +1,5 @@
 -- MAIL: "after length and forbidden octets: 503 if a transaction is open; then grammar, 501 5.5.2".
-use mathlib.Core.Bool.{Bool, true, false, cond}
+use mathlib.Core.Bool.{true, cond}
 use Prim.Native.Nat.{ℕ}
 use Rattle.profile.specs.declared.Reply.the-variants as Replies
 use Rattle.profile.specs.declared.numbers.Identity.{Identity}
@@ -19,13 +19,6 @@ relayed s i n = cond (signedIn (s .phase)) (Answers.Forward i n) (Answers.Forwar
 
 abbrev pub relays : Session → Identity → ℕ → Change
 relays s i n = record { greeted = s .greeted; transaction = true; phase = s .phase; answer = relayed s i n }
-
--- so an identity other than "<>", none or an address, is relayed for who is signed in alone
-abbrev pub isVouched : Identity → Bool
-isVouched Identities.NoMail = false
-isVouched Identities.Null = false
-isVouched Identities.Absent = true
-isVouched Identities.Address = true
 
 -- ""<>" if .. AUTH says so, otherwise none if AUTH is absent, else the decoded address"
 abbrev pub begins : Session → Mail → Change
