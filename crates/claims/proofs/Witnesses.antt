@@ -1,7 +1,7 @@
 -- The examples, by computation over servers: what a list of calls gives on an image is what it gives on the server that the image is taken for.
 -- Assumes nothing.
-use mathlib.Core.Path.{_≡_, refl, ap, ap₂, _∙_}
-use mathlib.Core.Bool.{Bool, false, cond, not, _&&_}
+use mathlib.Core.Path.{_≡_, refl, sym, ap, ap₂, _∙_}
+use mathlib.Core.Bool.{Bool, true, false, cond, not, _&&_}
 use mathlib.Core.List.{List, [], _∷_, _++_, map}
 use mathlib.Core.Option.{Option, none, some}
 use Prim.Native.Nat.{ℕ}
@@ -34,7 +34,7 @@ use Rattle.session.specs.Mail.{onMail}
 use Rattle.session.specs.Octets.{queryOctets, relayOctets}
 use Rattle.session.specs.Response.{onResponse}
 use Rattle.session.specs.Session.{nameOf}
-use Rattle.session.specs.Standing.{Standing, awaits}
+use Rattle.session.specs.Standing.{Standing, quiet, awaits}
 use Rattle.session.specs.Verdict as Verdicts
 use Rattle.session.specs.View.{viewIn}
 use Rattle.server.specs.Add.{onAdd}
@@ -47,9 +47,10 @@ use Rattle.server.specs.Outcome.{Result, done, Outcome, refuses, gives}
 use Rattle.server.specs.Requests as Requests
 use Rattle.server.specs.Requests.{Request, Sized, on}
 use Rattle.server.specs.Server.{Server}
-use Rattle.server.specs.Slots.{anyFree, found, replaced}
+use Rattle.server.specs.Slots.{isNumbered, anyFree, found, replaced}
 use Rattle.server.specs.Verdict.{onVerdict}
 use Rattle.server.specs.Who.{onWho}
+use Rattle.server.specs.declared.Connection.{Connection}
 use Rattle.server.proofs.Kept.{within, fresh-within}
 use Rattle.server.proofs.Moves.{Moves, Unrefused, moves}
 use Rattle.image.specs.Image.{Image, taken}
@@ -57,14 +58,16 @@ use Rattle.image.specs.Sizes.{imageSize}
 use Rattle.image.proofs.Taken.{taken-written, taken-within}
 use Rattle.calls.specs.Call.{Call, make, request}
 use Rattle.calls.specs.Step.{onLent, outcome, resultIn, imageIn, responseLent, isQueried, relayedIn, outOf, step, run, left}
+use Rattle.claims.specs.Exchanges as Exchanges
 use Rattle.claims.specs.History.{history, AllSized}
 use Rattle.claims.specs.Secrecy as Secrecy
-use Rattle.claims.specs.Told.{told}
+use Rattle.claims.specs.Told.{connectionAt, seen, told}
 use Rattle.claims.proofs.Served.{later, Plain, lent-plain, outcome-plain}
 use Rattle.claims.specs.Witnesses.{Buffers, LongEnough, shown, gave, example, exampleShows, SignsIn, lateVerdict, lateVerdictShows, LateVerdict}
 use Rattle.claims.specs.Witnesses.{signIns, signInsShow, sesame, tomato, plain, PasswordsAlike}
+use Rattle.claims.specs.Witnesses.{greets, fails, goesOn, failedExchangeShows, FailedExchange}
 use Rattle.claims.proofs.Follows.{look}
-use Rattle.claims.proofs.Others.{stands-taken}
+use Rattle.claims.proofs.Others.{has-taken, stands-taken}
 use Rattle.claims.proofs.Tells.{told-stands}
 
 -- the server after a request, and after a list of them
@@ -148,13 +151,17 @@ module _ (i : Image) (e : length i ≡ imageSize) where
   made-shows cs p =
       ap₂ (λ (x : Result × List ℕ) (xs : List (Result × List ℕ)). x ∷ xs) make-shows (run-shows (step i (make 1 1) .image) (fresh 1 1) cs make-taken p)
 
+  made-left : (cs : List Call) → Plains cs → taken (left i (make 1 1 ∷ cs)) ≡ some (after-requests (fresh 1 1) (map request cs))
+  unfolding left
+  made-left cs p = run-taken (step i (make 1 1) .image) (fresh 1 1) cs make-taken p
+
+  made-seen : (cs : List Call) → Plains cs → (n : ℕ) (w : Standing) → look n (after-requests (fresh 1 1) (map request cs) .slots) ≡ w
+      → seen (left i (make 1 1 ∷ cs)) n ≡ w
+  made-seen cs p n w f = stands-taken (left i (make 1 1 ∷ cs)) (after-requests (fresh 1 1) (map request cs)) n (made-left cs p) ∙ f
+
   made-told : (cs : List Call) → Plains cs → (n : ℕ) (w : Standing) → look n (after-requests (fresh 1 1) (map request cs) .slots) ≡ w
       → told i (history [] i (make 1 1 ∷ cs)) n ≡ w
-  unfolding left
-  made-told cs p n w f =
-      told-stands i (make 1 1 ∷ cs) (one-sized, sizes cs p) n
-      ∙ stands-taken (left i (make 1 1 ∷ cs)) (after-requests (fresh 1 1) (map request cs)) n (run-taken (step i (make 1 1) .image) (fresh 1 1) cs make-taken p)
-      ∙ f
+  made-told cs p n w f = told-stands i (make 1 1 ∷ cs) (one-sized, sizes cs p) n ∙ made-seen cs p n w f
 
 module _ (b : Buffers) (l : LongEnough b) where
   long-two : not (leb replyBuffer (length (b .reply)) && leb answerBuffer (length (b .answer))) ≡ false
@@ -162,6 +169,17 @@ module _ (b : Buffers) (l : LongEnough b) where
 
   long-name : not (leb longestName (length (b .name))) ≡ false
   long-name = rw (le-leb longestName (length (b .name)) (l .name))
+
+-- ---- what the examples compute with: who unfolds this unfolds all that its line names
+
+computes : Unit {0}
+unfolding fresh on onAdd onOpen onLine onVerdict onWho onClose anyFree found replaced offered responseOn padded every oneTo same before after
+    paddedTo capital words reply verb verbOf initial arguments auth forbidden understood command response viewIn heard nameOf queryOctets relayOctets
+    onAuth onMail onCommand onResponse afterLine Verdicts.onVerdict Verdicts.afterVerdict Base64.alphabet Base64.letter Base64.value Base64.groupOf
+    Base64.valid Base64.octets Base64.encode Mails.opens Mails.pathEnds Mails.rest Mails.words Mails.count Mails.allGood Mails.said Mails.identity
+    Mails.wellFormed Mails.mailAt Mails.mail Parameters.keyword Parameters.value Parameters.parameter Parameters.named Parameters.authValue
+    Parameters.submitterValue Parameters.good Addresses.address Xtext.digits Xtext.digit Xtext.number Xtext.valid Xtext.octets
+computes = tt
 
 -- ---- the example
 
@@ -410,3 +428,68 @@ passwords-alike i b e l =
       first = made-shows i e (drop 1 (signIns b sesame)) (all-plains b l sesame) ∙ sesame-computed;
       second = made-shows i e (drop 1 (signIns b tomato)) (all-plains b l tomato) ∙ tomato-computed;
     }
+
+-- ---- the exchanges that fail
+
+fail-requests : List Request
+fail-requests =
+    Requests.add (ascii "PLAIN") 1 0
+    ∷ Requests.opens 0 0
+    ∷ Requests.line 1 (ascii "EHLO a.example")
+    ∷ Requests.line 1 (ascii "AUTH PLAIN")
+    ∷ Requests.line 1 (ascii "*")
+    ∷ Requests.who 1
+    ∷ Requests.line 1 (ascii "AUTH PLAIN Zm9v")
+    ∷ Requests.verdict 1 2 []
+    ∷ Requests.who 1
+    ∷ Requests.line 1 (ascii "MAIL FROM:<a@example.com> AUTH=e+3Dmc2@example.com")
+    ∷ Requests.line 1 (ascii "AUTH PLAIN Zm9v")
+    ∷ []
+
+fails-computed : gave done ∷ all-show (fresh 1 1) fail-requests ≡ failedExchangeShows
+unfolding fail-requests computes
+fails-computed = refl
+
+-- the connection is greeted before the first AUTH, and awaits a response after it
+greeted-found : (c : Connection) × (found (isNumbered 1) (after-requests (fresh 1 1) (take 3 fail-requests) .slots) ≡ some c) × (c .session .greeted ≡ true)
+unfolding fail-requests computes
+greeted-found = (_, refl, refl)
+
+awaits-star : look 1 (after-requests (fresh 1 1) (take 4 fail-requests) .slots) ≡ awaits
+unfolding fail-requests computes
+awaits-star = refl
+
+awaits-unquiet : quiet ≡ awaits → ⊥
+awaits-unquiet e = let z : _≡_ {A = ℕ} 0 1 = cc in omega arith
+
+module _ (i : Image) (b : Buffers) (e : length i ≡ imageSize) (l : LongEnough b) where
+  greeted-first : (c : Connection) × (connectionAt (left i (greets b)) 1 ≡ some c) × (c .session .greeted ≡ true)
+  unfolding fail-requests
+  greeted-first =
+      let g = greeted-found in
+      let t = made-left i e (drop 1 (greets b)) ((refl, refl), ((refl, refl), ((refl, long-two b l), tt))) in
+      (g .0, has-taken (left i (greets b)) (after-requests (fresh 1 1) (take 3 fail-requests)) 1 t ∙ g .1, g .2)
+
+  fails-in-exchange : Exchanges.AllInExchange 1 (left i (greets b)) (fails b)
+  unfolding fail-requests left verb before capital
+  fails-in-exchange =
+      let two = long-two b l in
+      let star = made-seen i e (drop 1 (greets b ++ take 1 (fails b))) ((refl, refl), ((refl, refl), ((refl, two), ((refl, two), tt)))) 1 awaits awaits-star in (
+        Exchanges.line (λ q. refl),
+        (
+          Exchanges.line (λ q. absurd (awaits-unquiet (sym q ∙ star))),
+          (Exchanges.other refl, (Exchanges.line (λ q. refl), (Exchanges.verdict, (Exchanges.other refl, tt)))),
+        ),
+      )
+
+  fails-show : map shown (run i (greets b ++ (fails b ++ goesOn b))) ≡ failedExchangeShows
+  unfolding fail-requests
+  fails-show =
+      let two = long-two b l in
+      let name = long-name b l in
+      let last : Plains (drop 3 (fails b) ++ goesOn b) = ((refl, two), ((refl, two), ((refl, name), ((refl, two), ((refl, two), tt))))) in
+      made-shows i e (drop 1 (greets b ++ (fails b ++ goesOn b))) ((refl, refl), ((refl, refl), ((refl, two), ((refl, two), ((refl, two), ((refl, name), last))))))
+      ∙ fails-computed
+
+pub failed-exchange : FailedExchange
+failed-exchange i b e l = record { greeted = greeted-first i b e l; inExchange = fails-in-exchange i b e l; shows = fails-show i b e l }

@@ -1,5 +1,5 @@
--- The claims are not empty: document 01's example signs in, a late verdict signs nobody in, and two lists of calls that differ in passwords meet
--- the premise of the third demand.
+-- The claims are not empty: document 01's example signs in, a late verdict signs nobody in, two lists of calls that differ in passwords meet the
+-- premise of the third demand, and exchanges that fail that of what an exchange leaves.
 use mathlib.Core.Path.{_≡_}
 use mathlib.Core.Bool.{false, true}
 use mathlib.Core.List.{List, [], _∷_, _++_, map}
@@ -16,11 +16,14 @@ use Rattle.profile.specs.declared.numbers.Refusal.the-variants as Refusals
 use Rattle.session.specs.Limits.{replyBuffer, answerBuffer, longestName}
 use Rattle.session.specs.declared.answer.Answer.the-variants as Answers
 use Rattle.server.specs.Outcome.{Result, refused, done, opened, answered, borne}
+use Rattle.server.specs.declared.Connection.{Connection}
 use Rattle.image.specs.Image.{Image}
 use Rattle.image.specs.Sizes.{imageSize}
 use Rattle.calls.specs.Call.{Call, make, add, opens, line, verdict, who, close}
-use Rattle.calls.specs.Step.{Out, run}
+use Rattle.calls.specs.Step.{Out, run, left}
+use Rattle.claims.specs.Exchanges.{AllInExchange}
 use Rattle.claims.specs.Secrecy.{ListsAlike}
+use Rattle.claims.specs.Told.{connectionAt}
 
 -- a reply buffer, an answer buffer and a name buffer
 pub record Buffers : Type 0 where
@@ -200,3 +203,49 @@ pub record PasswordsDiffer (i : Image) (b : Buffers) : Type 0 where
 
 abbrev pub PasswordsAlike : Type 0
 PasswordsAlike = (i : Image) (b : Buffers) → length i ≡ imageSize → LongEnough b → PasswordsDiffer i b
+
+module _ (b : Buffers) where
+  -- a connection is opened and greeted
+  abbrev pub greets : List Call
+  greets = make 1 1 ∷ add (ascii "PLAIN") 1 0 ∷ opens 0 0 ∷ says b 1 "EHLO a.example" ∷ []
+
+  -- two exchanges fail, by "*" and by a rejected verdict, with who after each; no other EHLO is needed between them
+  abbrev pub fails : List Call
+  fails =
+      says b 1 "AUTH PLAIN"
+      ∷ says b 1 "*"
+      ∷ who 1 (b .name)
+      ∷ says b 1 "AUTH PLAIN Zm9v"
+      ∷ verdict 1 2 [] (b .reply) (b .answer)
+      ∷ who 1 (b .name)
+      ∷ []
+
+  -- then MAIL, with an address that is not relayed since nobody is signed in, and AUTH in its transaction
+  abbrev pub goesOn : List Call
+  goesOn = says b 1 "MAIL FROM:<a@example.com> AUTH=e+3Dmc2@example.com" ∷ says b 1 "AUTH PLAIN Zm9v" ∷ []
+
+-- what each of them comes to
+abbrev pub failedExchangeShows : List (Result × List ℕ)
+failedExchangeShows =
+    gave done
+    ∷ gave done
+    ∷ gave (opened 1)
+    ∷ gave (answered (Answers.Forward Identities.NoMail 0) [] [])
+    ∷ gave (answered Answers.EmptyChallenge (ascii "334 " ++ crlf) [])
+    ∷ hears Replies.Cancelled "501 5.7.0 Authentication cancelled"
+    ∷ gave (borne none)
+    ∷ (answered (Answers.Query 1 false 3) [] [], ascii "foo")
+    ∷ hears Replies.Rejected "535 5.7.8 Credentials not accepted"
+    ∷ gave (borne none)
+    ∷ gave (answered (Answers.Forward Identities.Null 0) [] [])
+    ∷ hears Replies.WrongMoment "503 5.5.1 Not permitted now"
+    ∷ []
+
+-- the exchanges meet the premises of `ExchangeKeeps`, on a connection that is greeted
+pub record ExchangesFail (i : Image) (b : Buffers) : Type 0 where
+  pub greeted : (c : Connection) × (connectionAt (left i (greets b)) 1 ≡ some c) × (c .session .greeted ≡ true)
+  pub inExchange : AllInExchange 1 (left i (greets b)) (fails b)
+  pub shows : map shown (run i (greets b ++ (fails b ++ goesOn b))) ≡ failedExchangeShows
+
+abbrev pub FailedExchange : Type 0
+FailedExchange = (i : Image) (b : Buffers) → length i ≡ imageSize → LongEnough b → ExchangesFail i b
