@@ -198,10 +198,7 @@ example-requests =
     ∷ []
 
 example-computed : gave done ∷ all-show (fresh 1 1) example-requests ≡ exampleShows
-unfolding example-requests fresh on onAdd onOpen onLine onVerdict onWho onClose anyFree found replaced offered responseOn padded every oneTo same
-    before after paddedTo capital words reply verb verbOf initial arguments auth forbidden understood command response viewIn heard nameOf queryOctets
-    relayOctets onAuth onCommand onResponse afterLine Verdicts.onVerdict Verdicts.afterVerdict Base64.alphabet Base64.letter Base64.value
-    Base64.groupOf Base64.valid Base64.octets Base64.encode
+unfolding example-requests computes
 example-computed = refl
 
 pub signs-in : SignsIn
@@ -232,12 +229,7 @@ late-requests =
     ∷ []
 
 late-computed : gave done ∷ all-show (fresh 1 1) late-requests ≡ lateVerdictShows
-unfolding late-requests fresh on onAdd onOpen onLine onVerdict onWho onClose anyFree found replaced offered responseOn padded every oneTo same before
-    after paddedTo capital words reply verb verbOf initial arguments auth forbidden understood command response viewIn heard nameOf queryOctets
-    relayOctets onAuth onMail onCommand onResponse afterLine Verdicts.onVerdict Verdicts.afterVerdict Base64.alphabet Base64.letter Base64.value
-    Base64.groupOf Base64.valid Base64.octets Base64.encode Mails.opens Mails.pathEnds Mails.rest Mails.words Mails.count Mails.allGood Mails.said
-    Mails.identity Mails.wellFormed Mails.mailAt Mails.mail Parameters.keyword Parameters.value Parameters.parameter Parameters.named
-    Parameters.authValue Parameters.submitterValue Parameters.good Addresses.address Xtext.digits Xtext.digit Xtext.number Xtext.valid Xtext.octets
+unfolding late-requests computes
 late-computed = refl
 
 pub late-verdict : LateVerdict
@@ -275,32 +267,20 @@ sign-in-requests p =
     ∷ []
 
 sesame-computed : gave done ∷ all-show (fresh 1 1) (sign-in-requests (ascii "AGFubmEAc2VzYW1l")) ≡ signInsShow (plain "sesame")
-unfolding sign-in-requests fresh on onAdd onOpen onLine onVerdict onWho onClose anyFree found replaced offered responseOn padded every oneTo same
-    before after paddedTo capital words reply verb verbOf initial arguments auth forbidden understood command response viewIn heard nameOf queryOctets
-    relayOctets onAuth onCommand onResponse afterLine Verdicts.onVerdict Verdicts.afterVerdict Base64.alphabet Base64.letter Base64.value
-    Base64.groupOf Base64.valid Base64.octets Base64.encode
+unfolding sign-in-requests computes
 sesame-computed = refl
 
 tomato-computed : gave done ∷ all-show (fresh 1 1) (sign-in-requests (ascii "AGFubmEAdG9tYXRv")) ≡ signInsShow (plain "tomato")
-unfolding sign-in-requests fresh on onAdd onOpen onLine onVerdict onWho onClose anyFree found replaced offered responseOn padded every oneTo same
-    before after paddedTo capital words reply verb verbOf initial arguments auth forbidden understood command response viewIn heard nameOf queryOctets
-    relayOctets onAuth onCommand onResponse afterLine Verdicts.onVerdict Verdicts.afterVerdict Base64.alphabet Base64.letter Base64.value
-    Base64.groupOf Base64.valid Base64.octets Base64.encode
+unfolding sign-in-requests computes
 tomato-computed = refl
 
 -- an answer is awaited after the empty challenge, and after that of the service
 awaits-first : look 1 (after-requests (fresh 1 1) (take 5 (sign-in-requests (ascii "AGFubmEAc2VzYW1l"))) .slots) ≡ awaits
-unfolding sign-in-requests fresh on onAdd onOpen onLine onVerdict onWho onClose anyFree found replaced offered responseOn padded every oneTo same
-    before after paddedTo capital words reply verb verbOf initial arguments auth forbidden understood command response viewIn heard nameOf queryOctets
-    relayOctets onAuth onCommand onResponse afterLine Verdicts.onVerdict Verdicts.afterVerdict Base64.alphabet Base64.letter Base64.value
-    Base64.groupOf Base64.valid Base64.octets Base64.encode
+unfolding sign-in-requests computes
 awaits-first = refl
 
 awaits-third : look 3 (after-requests (fresh 1 1) (take 13 (sign-in-requests (ascii "AGFubmEAc2VzYW1l"))) .slots) ≡ awaits
-unfolding sign-in-requests fresh on onAdd onOpen onLine onVerdict onWho onClose anyFree found replaced offered responseOn padded every oneTo same
-    before after paddedTo capital words reply verb verbOf initial arguments auth forbidden understood command response viewIn heard nameOf queryOctets
-    relayOctets onAuth onCommand onResponse afterLine Verdicts.onVerdict Verdicts.afterVerdict Base64.alphabet Base64.letter Base64.value
-    Base64.groupOf Base64.valid Base64.octets Base64.encode
+unfolding sign-in-requests computes
 awaits-third = refl
 
 sesame-tomato : Alike (ascii "AGFubmEAc2VzYW1l") (ascii "AGFubmEAdG9tYXRv")
