@@ -1,17 +1,17 @@
-// Images of servers: made, written, read, searched and tested. What this must print is in the file stdout, which expected.py makes from
-// docs/IMAGE.md and document 01.
-mod build;
-mod damage;
-mod finds;
-mod made;
+// Images of servers: made, written, read, searched and tested. The rows are the lines of the file stdin; rows.rt says what a line may be.
+// What they must print is in the file stdout, which expected.py makes from docs/IMAGE.md and document 01.
+use image::OCTETS;
+use libc::STDIN_FILENO;
+
+mod rows;
 mod show;
 mod sweep;
-mod written;
+mod words;
 
 fn main() {
-    made::run();
-    written::run();
-    finds::run();
-    damage::run();
-    sweep::run();
+    let mut text = io::large_buffer();
+    let mut buffer = [0u8; OCTETS + 1];
+    let mut kept = [0u8; 3 * (OCTETS + 1)];
+    let end = io::read_full(STDIN_FILENO, &mut text);
+    rows::run(octets::part(&text, 0, end), &mut buffer, &mut kept);
 }

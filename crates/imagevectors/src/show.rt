@@ -1,25 +1,20 @@
 // Printing of images, of what is read from them, and of where a search ended.
+use crate::words::octet;
 use image::Found;
-use image::OCTETS;
+use image::MOST_MECHANISMS;
 use libc::STDOUT_FILENO;
 use lines::mechanism::name_of;
 use profile::Profile;
-use server::Connection;
-use server::Header;
 use server::Mechanism;
-use server::Mechanisms;
 use session::Phase;
 use session::Session;
 use session::view::Offer;
 use textvectors::show::put;
 use textvectors::show::quoted;
 
-pub fn number(n: u64) {
+pub fn amount(text: &[u8], n: u64) {
+    put(text);
     io::print_decimal(STDOUT_FILENO, n);
-}
-
-pub fn index(n: usize) {
-    number(n as u64);
 }
 
 fn word(is: bool, text: &[u8]) {
@@ -38,10 +33,6 @@ pub fn taken(image: &[u8]) {
     }
 }
 
-fn octet(bytes: &[u8], i: usize) -> u8 {
-    if i < bytes.len() { bytes[i] } else { 0 }
-}
-
 // An octet that changed, in a row of at most sixteen that begins with the first one's offset; gives how many the row has.
 fn changed_at(before: &[u8], image: &[u8], i: usize, row: usize) -> usize {
     let x = octet(image, i);
@@ -49,8 +40,7 @@ fn changed_at(before: &[u8], image: &[u8], i: usize, row: usize) -> usize {
         return 0;
     }
     if row % 16 == 0 {
-        put(b"\n  ");
-        index(i);
+        amount(b"\n  ", i as u64);
         put(b":");
     }
     put(b" ");
@@ -69,28 +59,19 @@ pub fn changes(before: &[u8], image: &[u8]) {
     put(b"\n");
 }
 
-// A row on an image that was written, and the octets that changed.
-pub fn after(text: &[u8], before: &[u8], image: &[u8]) {
-    put(text);
-    taken(image);
-    changes(before, image);
-}
-
-// The octets that are not 0.
-pub fn set_octets(image: &[u8]) {
-    let zeros = [0u8; OCTETS];
-    changes(&zeros, image);
-}
-
 // ---- what is read
 
-pub fn header(h: Header) {
-    put(b"header: ");
-    number(h.connection);
-    put(b" ");
-    number(h.ticket);
+pub fn header(image: &[u8]) {
+    let h = image::read_header(image);
+    amount(b": ", h.connection);
+    amount(b" ", h.ticket);
     word(h.sealed, b" sealed");
-    put(b"\n");
+}
+
+// How many mechanisms there are.
+pub fn count(image: &[u8]) {
+    let table = image::read_mechanisms(image);
+    amount(b": ", table.count as u64);
 }
 
 fn mechanism(m: Mechanism) {
@@ -98,36 +79,32 @@ fn mechanism(m: Mechanism) {
     quoted(&name);
     word(m.client_first, b" client first");
     word(m.needs_protection, b" needs protection");
-    put(b"\n");
 }
 
-// The first three records and the last.
-pub fn mechanisms(table: Mechanisms) {
-    put(b"mechanisms: ");
-    index(table.count);
-    put(b"\n");
-    mechanism(table.records[0]);
-    mechanism(table.records[1]);
-    mechanism(table.records[2]);
-    mechanism(table.records[7]);
+// A record of the table of mechanisms.
+pub fn record(image: &[u8], i: usize) {
+    let table = image::read_mechanisms(image);
+    if i < MOST_MECHANISMS {
+        mechanism(table.records[i]);
+    }
 }
 
-pub fn offered(table: Mechanisms, name: &[u8]) {
-    put(b"offer ");
-    quoted(name);
-    let offer = table.offer(name_of(name));
-    match offer {
+fn present(client_first: bool, needs_protection: bool) {
+    put(b": present");
+    word(client_first, b", client first");
+    word(needs_protection, b", needs protection");
+}
+
+pub fn offer(image: &[u8], name: &[u8]) {
+    let table = image::read_mechanisms(image);
+    let o = table.offer(name_of(name));
+    match o {
         Offer::Present {
             client_first,
             needs_protection,
-        } => {
-            put(b": present");
-            word(client_first, b", client first");
-            word(needs_protection, b", needs protection");
-        }
+        } => present(client_first, needs_protection),
         Offer::Absent => put(b": absent"),
     }
-    put(b"\n");
 }
 
 fn profile(p: Profile) {
@@ -137,55 +114,53 @@ fn profile(p: Profile) {
     }
 }
 
+fn flags(protected: bool, greeted: bool, transaction: bool) {
+    word(protected, b" protected");
+    word(greeted, b" greeted");
+    word(transaction, b" transaction");
+}
+
+fn waiting(ticket: u64, sent: u8) {
+    amount(b", waiting ", ticket);
+    amount(b" ", sent as u64);
+}
+
 fn phase(at: Phase) {
     match at {
         Phase::Idle => put(b", idle"),
         Phase::SignedIn => put(b", signed in"),
-        Phase::Awaiting { sent } => {
-            put(b", awaiting ");
-            number(sent as u64);
-        }
-        Phase::Waiting { ticket, sent } => {
-            put(b", waiting ");
-            number(ticket);
-            put(b" ");
-            number(sent as u64);
-        }
+        Phase::Awaiting { sent } => amount(b", awaiting ", sent as u64),
+        Phase::Waiting { ticket, sent } => waiting(ticket, sent),
     }
+}
+
+fn name(bytes: &[u8; 64]) {
+    put(b", ");
+    quoted(octets::part(bytes, 0, octets::find(bytes, 0, 0)));
 }
 
 fn session(s: Session) {
     let p = s.profile;
     let at = s.phase;
-    let name = s.name;
+    let bytes = s.name;
     profile(p);
-    word(s.protected, b" protected");
-    word(s.greeted, b" greeted");
-    word(s.transaction, b" transaction");
+    flags(s.protected, s.greeted, s.transaction);
     phase(at);
-    put(b", ");
-    quoted(octets::part(&name, 0, octets::find(&name, 0, 0)));
+    name(&bytes);
 }
 
-pub fn slot(i: usize, c: Connection) {
+pub fn connection(image: &[u8], i: usize) {
+    let c = image::read_connection(image, i);
     let s = c.session;
-    put(b"slot ");
-    index(i);
-    put(b": ");
-    number(c.number);
+    amount(b": ", c.number);
     session(s);
-    put(b"\n");
 }
 
 // ---- where a search ended
 
 pub fn found(place: Found) {
     match place {
-        Found::At(i) => {
-            put(b"slot ");
-            index(i);
-        }
-        Found::Nothing => put(b"nothing"),
+        Found::At(i) => amount(b": slot ", i as u64),
+        Found::Nothing => put(b": nothing"),
     }
-    put(b"\n");
 }
