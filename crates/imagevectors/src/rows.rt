@@ -201,7 +201,7 @@ fn row(line: &[u8], n: usize, buffer: &mut [u8], kept: &mut [u8]) -> usize {
     n
 }
 
-pub fn run(text: &[u8], buffer: &mut [u8], kept: &mut [u8]) {
+pub(crate) fn run(text: &[u8], buffer: &mut [u8], kept: &mut [u8]) {
     let mut n = OCTETS;
     let mut from: usize = 0;
     while from < text.len() {

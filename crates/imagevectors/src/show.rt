@@ -1,10 +1,10 @@
 // Printing of images, of what is read from them, and of where a search ended.
 use crate::words::octet;
 use image::Found;
-use image::MOST_MECHANISMS;
 use libc::STDOUT_FILENO;
 use lines::mechanism::name_of;
 use profile::Profile;
+use server::MOST_MECHANISMS;
 use server::Mechanism;
 use session::Phase;
 use session::Session;
@@ -12,7 +12,7 @@ use session::view::Offer;
 use textvectors::show::put;
 use textvectors::show::quoted;
 
-pub fn amount(text: &[u8], n: u64) {
+pub(crate) fn amount(text: &[u8], n: u64) {
     put(text);
     io::print_decimal(STDOUT_FILENO, n);
 }
@@ -25,7 +25,7 @@ fn word(is: bool, text: &[u8]) {
 
 // ---- an image
 
-pub fn taken(image: &[u8]) {
+pub(crate) fn taken(image: &[u8]) {
     if image::is_taken(image) {
         put(b": taken");
     } else {
@@ -49,7 +49,7 @@ fn changed_at(before: &[u8], image: &[u8], i: usize, row: usize) -> usize {
 }
 
 // The octets that are others than before.
-pub fn changes(before: &[u8], image: &[u8]) {
+pub(crate) fn changes(before: &[u8], image: &[u8]) {
     let mut row: usize = 0;
     let mut i: usize = 0;
     while i < image.len() {
@@ -61,7 +61,7 @@ pub fn changes(before: &[u8], image: &[u8]) {
 
 // ---- what is read
 
-pub fn header(image: &[u8]) {
+pub(crate) fn header(image: &[u8]) {
     let h = image::read_header(image);
     amount(b": ", h.connection);
     amount(b" ", h.ticket);
@@ -69,7 +69,7 @@ pub fn header(image: &[u8]) {
 }
 
 // How many mechanisms there are.
-pub fn count(image: &[u8]) {
+pub(crate) fn count(image: &[u8]) {
     let table = image::read_mechanisms(image);
     amount(b": ", table.count as u64);
 }
@@ -82,7 +82,7 @@ fn mechanism(m: Mechanism) {
 }
 
 // A record of the table of mechanisms.
-pub fn record(image: &[u8], i: usize) {
+pub(crate) fn record(image: &[u8], i: usize) {
     let table = image::read_mechanisms(image);
     if i < MOST_MECHANISMS {
         mechanism(table.records[i]);
@@ -95,7 +95,7 @@ fn present(client_first: bool, needs_protection: bool) {
     word(needs_protection, b", needs protection");
 }
 
-pub fn offer(image: &[u8], name: &[u8]) {
+pub(crate) fn offer(image: &[u8], name: &[u8]) {
     let table = image::read_mechanisms(image);
     let o = table.offer(name_of(name));
     match o {
@@ -149,7 +149,7 @@ fn session(s: Session) {
     name(&bytes);
 }
 
-pub fn connection(image: &[u8], i: usize) {
+pub(crate) fn connection(image: &[u8], i: usize) {
     let c = image::read_connection(image, i);
     let s = c.session;
     amount(b": ", c.number);
@@ -158,7 +158,7 @@ pub fn connection(image: &[u8], i: usize) {
 
 // ---- where a search ended
 
-pub fn found(place: Found) {
+pub(crate) fn found(place: Found) {
     match place {
         Found::At(i) => amount(b": slot ", i as u64),
         Found::Nothing => put(b": nothing"),

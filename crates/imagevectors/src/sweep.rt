@@ -17,7 +17,7 @@ fn is_taken_with(image: &[u8], i: usize) -> bool {
     image::is_taken(&other)
 }
 
-pub fn run(image: &[u8], from: usize, to: usize) {
+pub(crate) fn run(image: &[u8], from: usize, to: usize) {
     let mut count: u64 = 0;
     let mut sum: u64 = 0;
     let mut i = from;

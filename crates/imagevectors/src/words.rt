@@ -4,7 +4,7 @@ use server::Connection;
 use session::Phase;
 use session::Session;
 
-pub fn octet(bytes: &[u8], i: usize) -> u8 {
+pub(crate) fn octet(bytes: &[u8], i: usize) -> u8 {
     if i < bytes.len() { bytes[i] } else { 0 }
 }
 
@@ -19,18 +19,18 @@ fn start(row: &[u8], i: usize) -> usize {
     at
 }
 
-pub fn word(row: &[u8], i: usize) -> &[u8] {
+pub(crate) fn word(row: &[u8], i: usize) -> &[u8] {
     let at = start(row, i);
     octets::part(row, at, octets::find(row, at, b' '))
 }
 
 // All from word i on.
-pub fn rest(row: &[u8], i: usize) -> &[u8] {
+pub(crate) fn rest(row: &[u8], i: usize) -> &[u8] {
     octets::part(row, start(row, i), row.len())
 }
 
 // A decimal number below 2^64.
-pub fn number(row: &[u8], i: usize) -> u64 {
+pub(crate) fn number(row: &[u8], i: usize) -> u64 {
     let digits = word(row, i);
     let mut n: u64 = 0;
     let mut k: usize = 0;
@@ -42,7 +42,7 @@ pub fn number(row: &[u8], i: usize) -> u64 {
     n
 }
 
-pub fn index(row: &[u8], i: usize) -> usize {
+pub(crate) fn index(row: &[u8], i: usize) -> usize {
     number(row, i) as usize
 }
 
@@ -51,7 +51,7 @@ fn small(row: &[u8], i: usize) -> u8 {
 }
 
 // Whether word i has a mark.
-pub fn has(row: &[u8], i: usize, mark: u8) -> bool {
+pub(crate) fn has(row: &[u8], i: usize, mark: u8) -> bool {
     let marks = word(row, i);
     octets::find(marks, 0, mark) < marks.len()
 }
@@ -77,13 +77,13 @@ fn phase(row: &[u8]) -> Phase {
     }
 }
 
-fn name(row: &[u8]) -> [u8; 64] {
-    let mut name = [0u8; 64];
+fn name(row: &[u8]) -> [u8; Session::LONGEST_NAME] {
+    let mut name = [0u8; Session::LONGEST_NAME];
     octets::write(word(row, 6), &mut name, 0);
     name
 }
 
-pub fn connection(row: &[u8]) -> Connection {
+pub(crate) fn connection(row: &[u8]) -> Connection {
     let kept = name(row);
     let session = Session {
         name: kept,

@@ -11,7 +11,7 @@ fn on_pop3(events: &[u8]) {
 }
 
 // Document 01's example, RFC 4954's, and commands around a transaction.
-pub fn commands() {
+pub(crate) fn commands() {
     on_smtp(b">EHLO a.example|>AUTH PLAIN Zm9v|sanna|>AUTH PLAIN Zm9v|sanna");
     on_smtp(
         b">EHLO client.example.com|>AUTH PLAIN dGVzdAB0ZXN0ADEyMzQ=|stest|>MAIL FROM:<e=mc2@example.com> AUTH=e+3Dmc2@example.com|e|>MAIL FROM:<john+@example.org> AUTH=<>|e",
@@ -31,7 +31,7 @@ pub fn commands() {
 }
 
 // Every check of AUTH in its order.
-pub fn checks() {
+pub(crate) fn checks() {
     on_smtp(
         b">AUTH|>AUTH PLAIN Zm9v|>EHLO a|>AUTH|>AUTH PLAIN |>AUTH plain|>AUTH NOSUCH !!|>AUTH NOSUCH Zm9v|>AUTH NOSUCH|>AUTH CRAM-MD5 Zh==|>AUTH CRAM-MD5 Zm9v|>AUTH CRAM-MD5 =|>AUTH PLAIN\x00|>USER a",
     );
@@ -48,7 +48,7 @@ pub fn checks() {
 }
 
 // How an exchange goes on and ends.
-pub fn exchanges() {
+pub(crate) fn exchanges() {
     on_smtp(
         b">EHLO a|>AUTH PLAIN|>QUIT|r|>AUTH PLAIN|>*|>AUTH PLAIN|>=|>AUTH PLAIN|>|t|>AUTH PLAIN|>EHLO a|>AUTH PLAIN|>Zm9v\x00|>AUTH PLAIN =|p|>AUTH CRAM-MD5|w|>AUTH CRAM-MD5|>NOOP|c|>*|sanna",
     );
@@ -67,7 +67,7 @@ pub fn exchanges() {
 }
 
 // Verdicts, their tickets and their data.
-pub fn verdicts() {
+pub(crate) fn verdicts() {
     on_smtp(
         b">EHLO a|>AUTH PLAIN Zm9v|oanna|s|sa b|sanna\x00|rx|wx|sanna|>MAIL FROM:<a>|e|>MAIL FROM:<a> AUTH=c@d|>RSET|>EHLO b|>HELO b|>AUTH PLAIN",
     );
@@ -81,7 +81,7 @@ pub fn verdicts() {
     on_smtp(b">EHLO a|>AUTH CRAM-MD5|C9211|C9210|>Zm9v|C100|>*");
 }
 
-pub fn pop3() {
+pub(crate) fn pop3() {
     on_pop3(
         b">CAPA|>USER a|>pass b|>APOP a b|>QUIT x|>MAIL FROM:<a>|>EHLO|>AUTH|>AUTH PLAIN dGVzdAB0ZXN0AHRlc3Q=|stest|>AUTH|>AUTH PLAIN|>USER a|>RSET",
     );
@@ -102,7 +102,7 @@ pub fn pop3() {
 }
 
 // Records that calls do not lead to.
-pub fn unreached() {
+pub(crate) fn unreached() {
     on_pop3(b"g|n|>AUTH PLAIN Zm9v|e|n|sanna|>NOOP");
     on_pop3(b"n|>RSET|>EHLO a|>HELO a");
     on_smtp(b">EHLO a|>AUTH PLAIN|n|>|n|r|>AUTH PLAIN|e|>AUTH PLAIN|n|>*|>MAIL FROM:<a>|e");

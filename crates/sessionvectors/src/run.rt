@@ -189,7 +189,7 @@ impl Run {
 }
 
 // A connection of its own for each dialogue.
-pub fn dialogue(p: Profile, protected: bool, events: &[u8]) {
+pub(crate) fn dialogue(p: Profile, protected: bool, events: &[u8]) {
     put(b"\n");
     let mut run = Run {
         session: Session::opened(p, protected),

@@ -11,11 +11,11 @@ use session::view::View;
 use textvectors::show::put;
 use textvectors::show::quoted;
 
-pub fn number(n: u64) {
+pub(crate) fn number(n: u64) {
     io::print_decimal(STDOUT_FILENO, n);
 }
 
-pub fn profile(p: Profile) {
+pub(crate) fn profile(p: Profile) {
     match p {
         Profile::Smtp => put(b"smtp "),
         Profile::Pop3 => put(b"pop3 "),
@@ -103,7 +103,7 @@ fn heard(a: Answer, p: Profile, bytes: &[u8]) {
 }
 
 // An answer to a line, or to a verdict with these octets.
-pub fn answer(a: Answer, p: Profile, bytes: &[u8], view: View, line: &[u8]) {
+pub(crate) fn answer(a: Answer, p: Profile, bytes: &[u8], view: View, line: &[u8]) {
     match a {
         Answer::Refused(_) => {
             put(b"refused");
@@ -151,7 +151,7 @@ fn phase(s: Session) {
     }
 }
 
-pub fn stands(s: Session) {
+pub(crate) fn stands(s: Session) {
     phase(s);
     if s.greeted {
         put(b", greeted");
