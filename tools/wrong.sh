@@ -27,6 +27,9 @@ fi
 
 wanted=()
 for name in "$@"; do
+    # a path is a name too
+    name=${name#crates/}
+    name=$(sed 's,/must-fail/\|/wrong/,/,; s,\.edit$,,' <<<"$name")
     case $name in
     */*) found=$(edits "${name%%/*}" | grep "/${name#*/}\.edit$") ;;
     *) found=$(edits "$name") ;;
