@@ -134,7 +134,7 @@ fn phase(at: Phase) {
     }
 }
 
-fn name(bytes: &[u8; 64]) {
+fn name(bytes: &[u8; Session::LONGEST_NAME]) {
     put(b", ");
     quoted(octets::part(bytes, 0, octets::find(bytes, 0, 0)));
 }
