@@ -1,11 +1,10 @@
-// Vectors of base64 and xtext, and the printing of texts and answers.
-mod base64_cases;
+// Vectors of base64 and xtext, the printing of texts and answers, and the words of a row.
+mod cases;
 mod form;
 mod rows;
 pub mod show;
-mod xtext_cases;
+pub mod words;
 
 pub fn run() {
-    base64_cases::run();
-    xtext_cases::run();
+    cases::run();
 }

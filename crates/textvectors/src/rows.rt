@@ -125,13 +125,15 @@ fn encode_to(f: Form, bytes: &[u8], m: usize, at: usize, dots: &mut [u8]) {
 }
 
 // How many octets of all 256 are taken at each place of a text.
-pub fn taken(f: Form, text: &[u8; 4]) {
+pub fn taken(f: Form, text: &[u8]) {
+    let mut four = [0u8; 4];
+    octets::write(text, &mut four, 0);
     heading(f, b" ", text);
     put(b" with another octet at each place, taken:");
-    amount(b" ", taken_at(f, *text, 0));
-    amount(b" ", taken_at(f, *text, 1));
-    amount(b" ", taken_at(f, *text, 2));
-    amount(b" ", taken_at(f, *text, 3));
+    amount(b" ", taken_at(f, four, 0));
+    amount(b" ", taken_at(f, four, 1));
+    amount(b" ", taken_at(f, four, 2));
+    amount(b" ", taken_at(f, four, 3));
     put(b"\n");
 }
 
@@ -167,7 +169,14 @@ fn is_valid(f: Form, text: &[u8; 4]) -> usize
 }
 
 // All 256 octets, encoded into a buffer of the text's length and decoded again.
-pub fn all_octets(f: Form, text: &mut [u8]) {
+pub fn all_octets(f: Form, n: usize) {
+    let mut text = [0u8; 584];
+    if n <= 584 {
+        all_octets_in(f, &mut text[..n]);
+    }
+}
+
+fn all_octets_in(f: Form, text: &mut [u8]) {
     let bytes = octets_from_zero();
     let mut back = [0u8; 256];
     show::form(f);
