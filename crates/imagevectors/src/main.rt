@@ -3,10 +3,10 @@
 use image::OCTETS;
 use libc::STDIN_FILENO;
 
+mod connections;
 mod rows;
 mod show;
 mod sweep;
-mod words;
 
 fn main() {
     let mut text = io::large_buffer();

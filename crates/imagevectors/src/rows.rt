@@ -30,15 +30,10 @@
 //
 // What is not read or not done is printed as that: octets that are not xtext, a row of any other kind, a row on an image of more
 // than 5,763 octets.
+use crate::connections::connection;
+use crate::connections::has;
 use crate::show;
 use crate::sweep;
-use crate::words::connection;
-use crate::words::has;
-use crate::words::index;
-use crate::words::number;
-use crate::words::octet;
-use crate::words::rest;
-use crate::words::word;
 use image::Found;
 use image::OCTETS;
 use octets::Decoded;
@@ -46,6 +41,11 @@ use server::Header;
 use server::Mechanism;
 use textvectors::show::put;
 use textvectors::show::quoted;
+use textvectors::words::index;
+use textvectors::words::number;
+use textvectors::words::octet;
+use textvectors::words::rest;
+use textvectors::words::word;
 
 fn fill(image: &mut [u8], x: u8) {
     let mut i: usize = 0;

@@ -1,5 +1,4 @@
 // Printing of images, of what is read from them, and of where a search ended.
-use crate::words::octet;
 use image::Found;
 use libc::STDOUT_FILENO;
 use lines::mechanism::name_of;
@@ -11,6 +10,7 @@ use session::Session;
 use session::view::Offer;
 use textvectors::show::put;
 use textvectors::show::quoted;
+use textvectors::words::octet;
 
 pub(crate) fn amount(text: &[u8], n: u64) {
     put(text);

@@ -90,7 +90,7 @@ fn xtext() {
     );
 }
 
-pub fn run() {
+pub(crate) fn run() {
     base64();
     xtext();
 }

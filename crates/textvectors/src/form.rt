@@ -3,40 +3,40 @@ use octets::Decoded;
 use octets::Encoded;
 use octets::Measured;
 
-pub enum Form {
+pub(crate) enum Form {
     Base64,
     Xtext,
 }
 
-pub fn measure(f: Form, text: &[u8]) -> Measured {
+pub(crate) fn measure(f: Form, text: &[u8]) -> Measured {
     match f {
         Form::Base64 => base64::measure(text),
         Form::Xtext => xtext::measure(text),
     }
 }
 
-pub fn decode(f: Form, text: &[u8], out: &mut [u8]) -> Decoded {
+pub(crate) fn decode(f: Form, text: &[u8], out: &mut [u8]) -> Decoded {
     match f {
         Form::Base64 => base64::decode(text, out),
         Form::Xtext => xtext::decode(text, out),
     }
 }
 
-pub fn measure_part(f: Form, line: &[u8], from: usize, to: usize) -> Measured {
+pub(crate) fn measure_part(f: Form, line: &[u8], from: usize, to: usize) -> Measured {
     match f {
         Form::Base64 => base64::measure_part(line, from, to),
         Form::Xtext => xtext::measure_part(line, from, to),
     }
 }
 
-pub fn decode_part(f: Form, line: &[u8], from: usize, to: usize, out: &mut [u8]) -> Decoded {
+pub(crate) fn decode_part(f: Form, line: &[u8], from: usize, to: usize, out: &mut [u8]) -> Decoded {
     match f {
         Form::Base64 => base64::decode_part(line, from, to, out),
         Form::Xtext => xtext::decode_part(line, from, to, out),
     }
 }
 
-pub fn encode(f: Form, bytes: &[u8], out: &mut [u8], at: usize) -> Encoded {
+pub(crate) fn encode(f: Form, bytes: &[u8], out: &mut [u8], at: usize) -> Encoded {
     match f {
         Form::Base64 => base64::encode(bytes, out, at),
         Form::Xtext => xtext::encode(bytes, out, at),

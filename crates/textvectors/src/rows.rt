@@ -29,7 +29,7 @@ fn ending(row: &[u8]) {
 }
 
 // The text of some octets.
-pub fn text_of(f: Form, bytes: &[u8]) {
+pub(crate) fn text_of(f: Form, bytes: &[u8]) {
     let mut text = [0u8; 192];
     let e = form::encode(f, bytes, &mut text, 0);
     match e {
@@ -69,7 +69,7 @@ fn again(f: Form, bytes: &[u8]) {
 }
 
 // Each text of a list, with "|" between them.
-pub fn read_each(f: Form, list: &[u8]) {
+pub(crate) fn read_each(f: Form, list: &[u8]) {
     let mut from: usize = 0;
     while from <= list.len() {
         let to = octets::find(list, from, b'|');
@@ -79,7 +79,7 @@ pub fn read_each(f: Form, list: &[u8]) {
 }
 
 // A part of a line, decoded into a row of dots.
-pub fn read_part(f: Form, line: &[u8], from: usize, to: usize) {
+pub(crate) fn read_part(f: Form, line: &[u8], from: usize, to: usize) {
     let mut dots = *b"....................";
     heading(f, b" ", line);
     amount(b" from ", from);
@@ -92,7 +92,7 @@ pub fn read_part(f: Form, line: &[u8], from: usize, to: usize) {
 }
 
 // A row of dots of which the first m were lent to decode a text into.
-pub fn decode_into(f: Form, text: &[u8], m: usize) {
+pub(crate) fn decode_into(f: Form, text: &[u8], m: usize) {
     let mut dots = *b"........";
     heading(f, b" ", text);
     amount(b" into ", m);
@@ -108,7 +108,7 @@ fn decode_to(f: Form, text: &[u8], m: usize, dots: &mut [u8]) {
 }
 
 // A row of dots of which the first m were lent to encode octets into from an index on.
-pub fn encode_into(f: Form, bytes: &[u8], m: usize, at: usize) {
+pub(crate) fn encode_into(f: Form, bytes: &[u8], m: usize, at: usize) {
     let mut dots = *b"........";
     heading(f, b" of ", bytes);
     amount(b" into ", m);
@@ -125,7 +125,7 @@ fn encode_to(f: Form, bytes: &[u8], m: usize, at: usize, dots: &mut [u8]) {
 }
 
 // How many octets of all 256 are taken at each place of a text.
-pub fn taken(f: Form, text: &[u8]) {
+pub(crate) fn taken(f: Form, text: &[u8]) {
     let mut four = [0u8; 4];
     octets::write(text, &mut four, 0);
     heading(f, b" ", text);
@@ -169,7 +169,7 @@ fn is_valid(f: Form, text: &[u8; 4]) -> usize
 }
 
 // All 256 octets, encoded into a buffer of the text's length and decoded again.
-pub fn all_octets(f: Form, n: usize) {
+pub(crate) fn all_octets(f: Form, n: usize) {
     let mut text = [0u8; 584];
     if n <= 584 {
         all_octets_in(f, &mut text[..n]);
