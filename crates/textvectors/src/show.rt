@@ -13,7 +13,7 @@ pub fn number(n: usize) {
     io::print_decimal(STDOUT_FILENO, n as u64);
 }
 
-pub fn form(f: Form) {
+pub(crate) fn form(f: Form) {
     match f {
         Form::Base64 => put(b"base64"),
         Form::Xtext => put(b"xtext"),
