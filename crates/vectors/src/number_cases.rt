@@ -31,35 +31,12 @@ fn verdict_of(n: u64) {
     }
 }
 
-fn profile_row(n: u64) {
+pub fn profile_row(n: u64) {
     profile_of(n);
     put(b"\n");
 }
 
-fn verdict_row(n: u64) {
+pub fn verdict_row(n: u64) {
     verdict_of(n);
     put(b"\n");
-}
-
-fn profiles() {
-    profile_row(0);
-    profile_row(1);
-    profile_row(2);
-    profile_row(256);
-    profile_row(18446744073709551615);
-}
-
-fn verdicts() {
-    let mut n: u64 = 0;
-    while n < 7 {
-        verdict_row(n);
-        n += 1;
-    }
-    verdict_row(256);
-    verdict_row(18446744073709551615);
-}
-
-pub fn run() {
-    profiles();
-    verdicts();
 }
