@@ -63,14 +63,14 @@ fn each(list: &[u8]) {
     }
 }
 
-pub fn numbers() {
+pub(crate) fn numbers() {
     each(
         b"f 0;f 1;f 2;f 256;f 18446744073709551615;v 0;v 1;v 2;v 3;v 4;v 5;v 6;v 256;v 18446744073709551615",
     );
 }
 
 // Verbs, lines with octets that are forbidden, AUTH, and lines of so many octets.
-pub fn commands() {
+pub(crate) fn commands() {
     each(
         b"b EHLO client.example.com|ehlo a|EHLO|EHLO |EHLO  |HELO a|Helo a|HELO|HELO |RSET|rset|RSET |RSET x|QUIT|Quit|QUIT |QUIT x|STARTTLS|CAPA|;\
         b  EHLO a|EHL|EHLOX a|EHLO\ta|RSET\t|AUTH\tPLAIN|MAILX FROM:<a>|USER anna|user|PASS x|pass|APOP a b|apop|USERS|USER\t;\
@@ -87,7 +87,7 @@ pub fn commands() {
 }
 
 // Paths, parameters, identities, and lines of so many octets.
-pub fn mails() {
+pub(crate) fn mails() {
     each(
         b"l s MAIL FROM:<e=mc2@example.com> AUTH=e+3Dmc2@example.com|MAIL FROM:<john+@example.org> AUTH=<>|\
         MAIL FROM:<alice@example.com> SUBMITTER=alice@example.com|MAIL FROM:<alice@example.com> SUBMITTER=bob@almamater.edu.example;\
@@ -113,7 +113,7 @@ pub fn mails() {
 }
 
 // Responses in an exchange.
-pub fn answers() {
+pub(crate) fn answers() {
     each(
         b"r s dGVzdAB0ZXN0ADEyMzQ=|cmpzMyBlYzNhNTlmZWQzOTVhYmExZWM2MzY3YzRmNGI0MWFjMA==||QUIT|RSET|AUTH|Zm9v|Zg==;\
         r p dGVzdAB0ZXN0AHRlc3Q=||QUIT|*|=;\

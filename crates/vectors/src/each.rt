@@ -23,10 +23,10 @@ fn each(c: Case, list: &[u8]) {
     }
 }
 
-pub fn lines(p: Profile, list: &[u8]) {
+pub(crate) fn lines(p: Profile, list: &[u8]) {
     each(Case::Line(p), list);
 }
 
-pub fn responses(p: Profile, list: &[u8]) {
+pub(crate) fn responses(p: Profile, list: &[u8]) {
     each(Case::Response(p), list);
 }

@@ -20,7 +20,7 @@ fn command(p: Profile, line: &[u8]) {
 }
 
 // A beginning and letters up to so many octets.
-pub fn line(p: Profile, begin: &[u8], size: usize) {
+pub(crate) fn line(p: Profile, begin: &[u8], size: usize) {
     let mut text = [b'A'; 1024];
     octets::write(begin, &mut text, 0);
     heading(p, begin, size);
@@ -35,7 +35,7 @@ fn put_path(text: &mut [u8], size: usize) {
     }
 }
 
-pub fn mail(p: Profile, size: usize) {
+pub(crate) fn mail(p: Profile, size: usize) {
     let mut text = [b'A'; 1024];
     put_path(&mut text, size);
     heading(p, b"MAIL FROM:<", size);
@@ -49,7 +49,7 @@ fn letters(p: Profile, size: usize) {
     put(b" letters: ");
 }
 
-pub fn response(p: Profile, size: usize) {
+pub(crate) fn response(p: Profile, size: usize) {
     let text = [b'A'; 12288];
     letters(p, size);
     show::response(lines::response::read_response(p, octets::part(&text, 0, size)));
@@ -57,7 +57,7 @@ pub fn response(p: Profile, size: usize) {
 }
 
 // A line far over every limit.
-pub fn huge(p: Profile) {
+pub(crate) fn huge(p: Profile) {
     let text = [b'A'; 100000];
     letters(p, 100000);
     show::response(lines::response::read_response(p, &text));

@@ -31,12 +31,12 @@ fn verdict_of(n: u64) {
     }
 }
 
-pub fn profile_row(n: u64) {
+pub(crate) fn profile_row(n: u64) {
     profile_of(n);
     put(b"\n");
 }
 
-pub fn verdict_row(n: u64) {
+pub(crate) fn verdict_row(n: u64) {
     verdict_of(n);
     put(b"\n");
 }

@@ -65,7 +65,7 @@ fn count(p: Profile, line: &[u8], place: usize) -> usize {
     n
 }
 
-pub fn with_each(p: Profile, line: &[u8], place: usize) {
+pub(crate) fn with_each(p: Profile, line: &[u8], place: usize) {
     show::profile(p);
     put(b" ");
     quoted(line);

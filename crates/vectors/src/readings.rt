@@ -82,7 +82,7 @@ fn parts_of(line: &[u8], c: Command) {
     }
 }
 
-pub fn line(p: Profile, text: &[u8]) {
+pub(crate) fn line(p: Profile, text: &[u8]) {
     show::profile(p);
     put(b" ");
     quoted(text);
@@ -104,7 +104,7 @@ fn parts_of_response(text: &[u8], r: Response) {
     }
 }
 
-pub fn response(p: Profile, text: &[u8]) {
+pub(crate) fn response(p: Profile, text: &[u8]) {
     show::profile(p);
     put(b" response ");
     quoted(text);

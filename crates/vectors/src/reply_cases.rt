@@ -61,7 +61,7 @@ fn refused_moments() {
     replies(Reply::Unavailable, b" mechanism absent: ");
 }
 
-pub fn run() {
+pub(crate) fn run() {
     verdicts();
     refused_lines();
     refused_moments();

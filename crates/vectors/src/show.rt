@@ -8,7 +8,7 @@ use profile::numbers::Verdict;
 use textvectors::show::number;
 use textvectors::show::put;
 
-pub fn profile(p: Profile) {
+pub(crate) fn profile(p: Profile) {
     match p {
         Profile::Smtp => put(b"smtp"),
         Profile::Pop3 => put(b"pop3"),
@@ -66,7 +66,7 @@ fn verb(c: Command) {
     }
 }
 
-pub fn command(c: Command) {
+pub(crate) fn command(c: Command) {
     match c {
         Command::NotUnderstood => put(b"not understood"),
         Command::Malformed => put(b"malformed"),
@@ -77,7 +77,7 @@ pub fn command(c: Command) {
     }
 }
 
-pub fn response(r: Response) {
+pub(crate) fn response(r: Response) {
     match r {
         Response::TooLong => put(b"too long"),
         Response::Cancelled => put(b"cancelled"),
@@ -86,7 +86,7 @@ pub fn response(r: Response) {
     }
 }
 
-pub fn verdict(v: Verdict) {
+pub(crate) fn verdict(v: Verdict) {
     match v {
         Verdict::Challenge => put(b"challenge"),
         Verdict::Success => put(b"success"),
