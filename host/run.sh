@@ -60,12 +60,18 @@ need_compilers() {
     fi
 }
 
-# the library, made anew where a source is newer
-need_library() {
+# the library, made anew where a source is newer: begun here, while the tests are compiled, and waited for by need_library
+making=''
+make_library() {
     if [ -z "$library" ] || { [ -f "$library" ] && [ -z "$(find crates -name '*.rt' -newer "$library" | head -n 1)" ]; }; then
         return
     fi
-    if ! rt staticlib umbrelnic >"$out/staticlib.log" 2>&1; then
+    rt staticlib umbrelnic >"$out/staticlib.log" 2>&1 &
+    making=$!
+}
+
+need_library() {
+    if [ -n "$making" ] && ! wait "$making"; then
         tail -n 20 "$out/staticlib.log"
         failed "library: rt staticlib umbrelnic failed; $out/staticlib.log has it whole"
         finish
@@ -85,41 +91,56 @@ header() {
     fi
 }
 
-# objects DIRECTORY FLAGS..: what the programs share
+# objects DIRECTORY PARTS FLAGS..: one of each part
 objects() {
     directory=$1
-    shift
+    parts=$2
+    shift 2
     mkdir -p "$directory"
-    for part in $shared; do
+    for part in $parts; do
         if ! gcc "$@" $on_model -c "host/$part.c" -o "$directory/$part.o"; then
             failed "build $part"
+            [ -z "$making" ] || kill "$making"
             finish
         fi
     done
 }
 
-# build DIRECTORY NAME FLAGS..
-build() {
+# link DIRECTORY NAME FLAGS..: a test with what the tests share, and the library
+link() {
     directory=$1
     name=$2
     shift 2
-    if ! gcc "$@" -o "$directory/$name" "host/$name.c" "$directory"/*.o $library; then
+    linked=$directory/$name.o
+    for part in $shared; do
+        linked="$linked $directory/$part.o"
+    done
+    if ! gcc "$@" -o "$directory/$name" $linked $library; then
         failed "build $name"
         return 1
     fi
 }
 
-# run PROGRAM ARGUMENTS..: its lines are results; where it dies, that is one
-run() {
-    "$@" >"$out/said" 2>"$out/errors"
+# begin PROGRAM ARGUMENTS..: starts it; judge PROGRAM PROCESS: waits for it. Its lines are results; where it dies, that is one
+begin() {
+    "$@" >"$1.said" 2>"$1.errors" &
+}
+
+judge() {
+    wait "$2"
     status=$?
-    tee -a "$results" <"$out/said"
-    cat "$out/errors"
-    if [ $status -ne 0 ] && ! grep -q '^FAIL ' "$out/said"; then
+    tee -a "$results" <"$1.said"
+    cat "$1.errors"
+    if [ $status -ne 0 ] && ! grep -q '^FAIL ' "$1.said"; then
         failed "$(basename "$1"): ended with status $status"
-    elif ! grep -q '^ok \|^FAIL ' "$out/said"; then
+    elif ! grep -q '^ok \|^FAIL ' "$1.said"; then
         failed "$(basename "$1"): said nothing"
     fi
+}
+
+run() {
+    begin "$@"
+    judge "$1" $!
 }
 
 # docs/C-API.md's host: what it prints is given there
@@ -136,24 +157,29 @@ sign_in() {
 mkdir -p "$out"
 : >"$results"
 need_compilers
-need_library
+make_library
 
 header 'as C11' gcc -x c -std=c11
 header 'as C++17' g++ -x c++ -std=c++17
+objects "$out/sanitised" "$shared $tests flips compare" $sanitised
+# as a host would be built, and faster
+objects "$out/plain" "$shared flips compare" $strict -O2
+need_library
 
 if [ -n "$library" ]; then
     sign_in
 fi
-objects "$out/sanitised" $sanitised
+# the longest runs beside the others
+longest=''
+link "$out/plain" compare $strict -O2 && begin "$out/plain/compare" "$calls" "$seed" && longest=$!
 for name in $tests; do
-    build "$out/sanitised" "$name" $sanitised && run "$out/sanitised/$name"
+    link "$out/sanitised" "$name" $sanitised && run "$out/sanitised/$name"
 done
-build "$out/sanitised" flips $sanitised && run "$out/sanitised/flips" 7
-build "$out/sanitised" compare $sanitised && run "$out/sanitised/compare" 200000 "$((seed + 1))"
-
-# as a host would be built, and faster
-objects "$out/plain" $strict -O2
-build "$out/plain" flips $strict -O2 && run "$out/plain/flips"
-build "$out/plain" compare $strict -O2 && run "$out/plain/compare" "$calls" "$seed"
+link "$out/sanitised" flips $sanitised && run "$out/sanitised/flips" 7
+link "$out/sanitised" compare $sanitised && run "$out/sanitised/compare" 200000 "$((seed + 1))"
+link "$out/plain" flips $strict -O2 && run "$out/plain/flips"
+if [ -n "$longest" ]; then
+    judge "$out/plain/compare" "$longest"
+fi
 
 finish
