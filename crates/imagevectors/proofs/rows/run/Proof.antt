@@ -24,9 +24,18 @@ run-spec =
     (λ c κs. search needs)
     (λ c κs. search needs)
     (λ c κs. search needs)
-    (λ c. omega (arith, find-within 10 (c .before .before .before .before .before .before .before .before .before .before .before .before .before .before .args .text .now) (c .before .before .before .before .before .before .before .before .before .before .loop .from) (omega arith)))
-    (λ c. omega (arith, find-within 10 (c .before .before .before .before .before .before .before .before .before .before .before .before .before .before .args .text .now) (c .before .before .before .before .before .before .before .before .before .before .loop .from) (omega arith)))
-    (λ c. (search needs, (search needs, omega (arith, find-within 10 (c .before .before .before .before .before .before .before .before .before .before .before .before .before .before .args .text .now) (c .before .before .before .before .before .before .before .before .before .before .loop .from) (omega arith)))))
+    (λ c.
+    let at-loop = c .before .before .before .before .before .before .before .before .before .before in
+    let at-start = at-loop .before .before .before .before in
+    omega (arith, find-within 10 (at-start .args .text .now) (at-loop .loop .from) (omega arith)))
+    (λ c.
+    let at-loop = c .before .before .before .before .before .before .before .before .before .before in
+    let at-start = at-loop .before .before .before .before in
+    omega (arith, find-within 10 (at-start .args .text .now) (at-loop .loop .from) (omega arith)))
+    (λ c.
+    let at-loop = c .before .before .before .before .before .before .before .before .before .before in
+    let at-start = at-loop .before .before .before .before in
+    (search needs, (search needs, omega (arith, find-within 10 (at-start .args .text .now) (at-loop .loop .from) (omega arith)))))
     (λ c. search needs)
     (λ c. search needs)
     (λ c. search needs))

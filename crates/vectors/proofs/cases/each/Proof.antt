@@ -22,7 +22,16 @@ each-spec =
     (λ c κs. search needs)
     (λ c κs. search needs)
     (λ c κs. search needs)
-    (λ c. omega (arith, find-within 59 (c .before .before .before .before .before .before .args .list .now) (c .before .before .before .before .loop .from) (omega arith)))
-    (λ c. omega (arith, find-within 59 (c .before .before .before .before .before .before .args .list .now) (c .before .before .before .before .loop .from) (omega arith)))
-    (λ c. omega (arith, find-within 59 (c .before .before .before .before .before .before .args .list .now) (c .before .before .before .before .loop .from) (omega arith)))
+    (λ c.
+    let at-loop = c .before .before .before .before in
+    let at-start = at-loop .before .before in
+    omega (arith, find-within 59 (at-start .args .list .now) (at-loop .loop .from) (omega arith)))
+    (λ c.
+    let at-loop = c .before .before .before .before in
+    let at-start = at-loop .before .before in
+    omega (arith, find-within 59 (at-start .args .list .now) (at-loop .loop .from) (omega arith)))
+    (λ c.
+    let at-loop = c .before .before .before .before in
+    let at-start = at-loop .before .before in
+    omega (arith, find-within 59 (at-start .args .list .now) (at-loop .loop .from) (omega arith)))
     (λ c. search needs))
