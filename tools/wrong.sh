@@ -3,6 +3,7 @@
 #   tools/wrong.sh                 lists them: those of the gate (crates/NAME/must-fail) and those that are tried on demand (crates/NAME/wrong)
 #   tools/wrong.sh NAME/LABEL ..   tries crates/NAME/must-fail/LABEL.edit or crates/NAME/wrong/LABEL.edit
 #   tools/wrong.sh NAME ..         tries all edits of a crate
+#   tools/wrong.sh fits            proves nothing: whether what each edit on demand replaces stands once in its file; ends with 'N passed, M failed'
 # Of each it says whether it was refused, and prints the prover's first errors, so that a reader sees which fact failed (ERRORS=n: so many, 3 if not set).
 # What was proved before (target/) serves as it stands; crates that changed since are proved first, in the copy.
 # Ends with 0 where every edit that was tried was refused.
@@ -14,6 +15,42 @@ errors=${ERRORS:-3}
 edits() {
     find "crates/$1/must-fail" "crates/$1/wrong" -name '*.edit' 2>/dev/null | sort
 }
+
+# fits EDIT: whether each text that it replaces stands once in its file
+fits() {
+    local crate file='' text='' line after
+    crate=$(cut -d/ -f2 <<<"$1")
+    while IFS= read -r line; do
+        case $line in
+        'file: '*)
+            file=crates/$crate/${line#file: }
+            [ -f "$file" ] || return 1
+            text=$(cat "$file")
+            ;;
+        'old: '*)
+            after=${text#*"${line#old: }"}
+            [ "$after" != "$text" ] && [ "${after#*"${line#old: }"}" = "$after" ] || return 1
+            ;;
+        esac
+    done <"$1"
+    [ -n "$file" ]
+}
+
+if [ "$*" = fits ]; then
+    passed=0
+    failed=0
+    for edit in crates/*/wrong/*.edit; do
+        if fits "$edit"; then
+            passed=$((passed + 1))
+        else
+            echo "FAIL $edit: what it replaces does not stand once in its file"
+            failed=$((failed + 1))
+        fi
+    done
+    echo "$passed passed, $failed failed"
+    [ "$failed" -eq 0 ]
+    exit
+fi
 
 if [ $# -eq 0 ]; then
     for edit in crates/*/must-fail/*.edit crates/*/wrong/*.edit; do
