@@ -1,27 +1,28 @@
--- Keys that differ, told in one pass from the last element to the first: a table says which keys, modulo 256, may have been seen, and only an
--- element whose key may have been seen is compared with those after it. Assumes nothing.
-use mathlib.Core.Path.{_≡_, refl, sym, ap, ap₂, _∙_}
-use mathlib.Core.Bool.{Bool, true, false, cond, not, _&&_, _||_, and-comm, true≢false}
+-- Keys that differ, told on a walk from the last slot to the first. A table says which marks may have been met, and a list has 32 bits of each
+-- key at its slot's index; only a slot whose mark and bits are there is compared with those after it. Assumes nothing.
+use mathlib.Core.Path.{_≡_, refl, sym, ap, _∙_}
+use mathlib.Core.Bool.{Bool, true, false, cond, not, _&&_, _||_, true≢false}
 use mathlib.Core.List.{List, [], _∷_}
 use mathlib.Core.Option.{Option, none, some}
-use Prim.Native.Nat.{ℕ, _+_, _%_, _≤_}
+use Prim.Native.Nat.{ℕ, zero, suc, _+_, _<_, _≤_}
 use native.Mathlib.Omega.{arith}
 use native.Mathlib.Numerals.{add-one}
 use native.Mathlib.Decide.{ℕ-discrete}
 use lib.Dec.{eqb}
-use borrow.Author.Tests.{eqb-true}
+use borrow.Author.Tests.{eqb-true, eq-eqb}
 use lib.ListN.{length, getD, set, drop, length-set, drop-of-length-le}
 use lib.Seq.{drop-cons, getD-set-same, getD-set-other}
-use Rattle.octets.specs.Lists.{every}
+use Rattle.octets.specs.Lists.{every, holds}
 use Rattle.octets.proofs.Cases.{both}
+use Rattle.server.specs.Server.{Slot}
 use Rattle.server.specs.WellFormed.{has, clashes, apart, differ}
-use Rattle.image.specs.Private.{marked, Passed}
+use Rattle.image.specs.Private.{lowOf, markOf, marked, isListed, Met, isNew}
 
-pub or-true : (p : Bool) → (p || true) ≡ true
+or-true : (p : Bool) → (p || true) ≡ true
 or-true true = refl
 or-true false = refl
 
-pub every-imp : {A : Type 0} (p q : A → Bool) → ((x : A) → p x ≡ true → q x ≡ true) → (xs : List A) → every p xs ≡ true → every q xs ≡ true
+every-imp : {A : Type 0} (p q : A → Bool) → ((x : A) → p x ≡ true → q x ≡ true) → (xs : List A) → every p xs ≡ true → every q xs ≡ true
 unfolding every
 every-imp p q h [] e = refl
 every-imp p q h (x ∷ xs) e =
@@ -33,105 +34,152 @@ unfolding every
 every-true [] = refl
 every-true (x ∷ xs) = every-true xs
 
--- ---- the table
+-- ---- the marks
 
--- the mark of m set, where b says so
-abbrev pub marking : List Bool → Bool → ℕ → List Bool
-marking n b m = set n (m % 256) (getD n (m % 256) false || b)
+mark-below : (m : ℕ) → markOf m < 256
+unfolding markOf
+mark-below m = omega arith
 
-module _ (n : List Bool) (len : length n ≡ 256) (b : Bool) (m : ℕ) where
-  marking-keeps : (k : Option ℕ) → marked n k ≡ true → marked (marking n b m) k ≡ true
+module _ (n : List Bool) (len : length n ≡ 256) (m : ℕ) where
+  marking-self : marked (set n (markOf m) true) (some m) ≡ true
+  marking-self = getD-set-same n (markOf m) true false (omega (arith, mark-below m))
+
+  marking-keeps : (k : Option ℕ) → marked n k ≡ true → marked (set n (markOf m) true) k ≡ true
   marking-keeps none e = refl
-  marking-keeps (some u) e = go (ℕ-discrete (u % 256) (m % 256))
+  marking-keeps (some u) e = go (ℕ-discrete (markOf u) (markOf m))
     where
-      go : Dec (u % 256 ≡ m % 256) → getD (marking n b m) (u % 256) false ≡ true
-      go (yes q) =
-          rw (q, getD-set-same n (m % 256) (getD n (m % 256) false || b) false (omega arith))
-          (ap (λ (c : Bool). c || b) (ap (λ (j : ℕ). getD n j false) (sym q) ∙ e))
-      go (no q) = getD-set-other n (m % 256) (u % 256) (getD n (m % 256) false || b) false q ∙ e
-
-marking-self : (n : List Bool) → length n ≡ 256 → (b : Bool) (m : ℕ) → marked (marking n b m) (cond b (some m) none) ≡ true
-marking-self n len false m = refl
-marking-self n len true m = getD-set-same n (m % 256) (getD n (m % 256) false || true) false (omega arith) ∙ or-true (getD n (m % 256) false)
+      go : Dec (markOf u ≡ markOf m) → getD (set n (markOf m) true) (markOf u) false ≡ true
+      go (yes q) = rw q marking-self
+      go (no q) = getD-set-other n (markOf m) (markOf u) true false q ∙ e
 
 -- a key whose mark is not set is none of those whose marks are
-unmarked : (n : List Bool) (m : ℕ) → getD n (m % 256) false ≡ false → (k : Option ℕ) → marked n k ≡ true → not (has k m) ≡ true
+unmarked : (n : List Bool) (m : ℕ) → getD n (markOf m) false ≡ false → (k : Option ℕ) → marked n k ≡ true → not (has k m) ≡ true
 unmarked n m f none e = refl
 unmarked n m f (some u) e = go (eqb u m) refl
   where
     go : (c : Bool) → eqb u m ≡ c → not (eqb u m) ≡ true
     go false h = rw h
-    go true h = absurd (true≢false (sym e ∙ ap (λ (j : ℕ). getD n (j % 256) false) (eqb-true u m h) ∙ f))
+    go true h = absurd (true≢false (sym e ∙ ap (λ (j : ℕ). getD n (markOf j) false) (eqb-true u m h) ∙ f))
 
--- ---- the loop: the elements from i on are told apart, and their marks are set
+-- ---- the list
 
-module _ {A : Type 0} (key : A → Option ℕ) (xs : List A) where
-  pub passed-start : (i : ℕ) (n : List Bool) → length xs ≡ i → length n ≡ 256 → Passed key xs i true n
-  unfolding every apart
-  passed-start i n e h =
+holds-drop : (x i : ℕ) (v : List ℕ) → holds x (drop i v) ≡ true → holds x v ≡ true
+holds-drop x zero v e = e
+holds-drop x (suc i) [] e = e
+holds-drop x (suc i) (y ∷ v) e = rw (holds-drop x i v e) (or-true (eqb y x))
+
+listed-drop : (i : ℕ) (v : List ℕ) (k : Option ℕ) → isListed (drop i v) k ≡ true → isListed v k ≡ true
+listed-drop i v none e = refl
+listed-drop i v (some m) e = holds-drop (lowOf m) i v e
+
+listed-more : (y : ℕ) (v : List ℕ) (k : Option ℕ) → isListed v k ≡ true → isListed (y ∷ v) k ≡ true
+listed-more y v none e = refl
+listed-more y v (some m) e = rw e (or-true (eqb y (lowOf m)))
+
+unlisted : (v : List ℕ) (m : ℕ) → holds (lowOf m) v ≡ false → (k : Option ℕ) → isListed v k ≡ true → not (has k m) ≡ true
+unlisted v m f none e = refl
+unlisted v m f (some u) e = go (eqb u m) refl
+  where
+    go : (c : Bool) → eqb u m ≡ c → not (eqb u m) ≡ true
+    go false h = rw h
+    go true h = absurd (true≢false (sym e ∙ ap (λ (j : ℕ). holds (lowOf j) v) (eqb-true u m h) ∙ f))
+
+-- the loop that looks for x: w is what the whole comes to, met what came of the first j
+or-assoc : (a b c : Bool) → (a || (b || c)) ≡ ((a || b) || c)
+or-assoc true b c = refl
+or-assoc false b c = refl
+
+or-false : (a : Bool) → (a || false) ≡ a
+or-false true = refl
+or-false false = refl
+
+module _ (w met : Bool) (v : List ℕ) (x j n : ℕ) (len : length v ≡ n) (inv : w ≡ (met || holds x (drop j v))) where
+  pub holds-turn : j < n → w ≡ ((met || eqb (getD v j 0) x) || holds x (drop (j + 1) v))
+  holds-turn h =
+      let e : drop j v ≡ getD v j 0 ∷ drop (j + 1) v = drop-cons v j 0 (omega arith) ∙ rw (add-one j) in
+      inv ∙ ap (λ (u : List ℕ). met || holds x u) e ∙ or-assoc met (eqb (getD v j 0) x) (holds x (drop (j + 1) v))
+
+  pub holds-end : n ≤ j → w ≡ met
+  holds-end h = inv ∙ ap (λ (u : List ℕ). met || holds x u) (drop-of-length-le v {i = j} (omega arith)) ∙ or-false met
+
+drop-set : (v : List ℕ) (j x : ℕ) → j < length v → drop j (set v j x) ≡ x ∷ drop (j + 1) v
+drop-set [] j x h = absurd (omega arith)
+drop-set (y ∷ v) zero x h = refl
+drop-set (y ∷ v) (suc j) x h = let e : suc j + 1 ≡ suc (j + 1) = omega arith in rw e (drop-set v j x (omega arith))
+
+-- ---- the walk: the marks of the slots from i on are set, and their bits are listed
+
+module _ (key : Slot → Option ℕ) (xs : List Slot) where
+  pub met-start : (i : ℕ) (n : List Bool) (v : List ℕ) → length xs ≡ i → length n ≡ 256 → length v ≡ length xs → Met key xs i n v
+  unfolding every
+  met-start i n v e h k =
       let d : drop i xs ≡ [] = drop-of-length-le xs {i = i} (omega arith) in
-      record { bound = omega arith; marks = h; told = rw d; seen = rw d }
+      record { bound = omega arith; marks = h; lows = k; seen = rw d; kept = rw d }
 
-  pub passed-end : (i : ℕ) (ok : Bool) (n : List Bool) → Passed key xs i ok n → i ≤ 0 → ok ≡ differ key xs
-  passed-end i ok n h z =
-      let e : i ≡ 0 = omega arith in
-      rw e at (h .told)
+  module _ (j : ℕ) (n : List Bool) (v : List ℕ) (h : Met key xs (j + 1) n v) where
+    x : Slot
+    x = getD xs j none
 
-  -- an element without a key
-  pub passed-skip : (i : ℕ) (ok : Bool) (n : List Bool) → Passed key xs i ok n → (j : ℕ) → i ≡ j + 1 → (x : A) → getD xs j x ≡ x → key x ≡ none → Passed key xs j ok n
-  unfolding every apart
-  passed-skip i ok n h j e x at is =
-      let front : drop j xs ≡ x ∷ drop (j + 1) xs = drop-cons xs j x (omega (arith, h .bound)) ∙ rw (at, add-one j) in
-      record {
-        bound = omega (arith, h .bound);
-        marks = h .marks;
-        told = rw (front, is, every-true (drop (j + 1) xs)) (rw e at (h .told));
-        seen = rw (front, is) (rw e at (h .seen));
-      }
-
-  module _ (i : ℕ) (ok : Bool) (n : List Bool) (h : Passed key xs i ok n) (j : ℕ) (e : i ≡ j + 1) (x : A) (at : getD xs j x ≡ x) (b : Bool) (m : ℕ)
-      (is : key x ≡ cond b (some m) none) where
-    rest : List A
+    rest : List Slot
     rest = drop (j + 1) xs
 
     front : drop j xs ≡ x ∷ rest
-    unfolding rest
-    front = drop-cons xs j x (omega (arith, h .bound)) ∙ rw (at, add-one j)
+    unfolding x rest
+    front = drop-cons xs j none (omega (arith, h .bound)) ∙ rw (add-one j)
 
-    rest-told : ok ≡ differ key rest
-    unfolding rest
-    rest-told = rw e at (h .told)
+    -- a slot without a key
+    pub met-skip : key (getD xs j none) ≡ none → Met key xs j n v
+    unfolding every x rest
+    met-skip is =
+        let more : drop j v ≡ getD v j 0 ∷ drop (j + 1) v = drop-cons v j 0 (omega (arith, h .bound, h .lows)) ∙ rw (add-one j) in
+        record {
+          bound = omega (arith, h .bound);
+          marks = h .marks;
+          lows = h .lows;
+          seen = rw (front, is) (h .seen);
+          kept = rw (front, is, more)
+              (every-imp (λ y. isListed (drop (j + 1) v) (key y)) (λ y. isListed (getD v j 0 ∷ drop (j + 1) v) (key y)) (λ y. listed-more (getD v j 0) (drop (j + 1) v) (key y)) rest (h .kept));
+        }
 
-    rest-seen : every (λ y. marked n (key y)) rest ≡ true
-    unfolding rest
-    rest-seen = rw e at (h .seen)
+    pub new-none : key (getD xs j none) ≡ none → true ≡ isNew key xs j
+    unfolding isNew
+    new-none is = rw is (sym (every-true (drop (j + 1) xs)))
 
-    -- what is compared only where the mark is set
-    clear : Bool
-    clear = every (λ y. not (has (key y) m)) rest
+    -- one that has a key m
+    module _ (m : ℕ) (is : key (getD xs j none) ≡ some m) where
+      pub met-turn : Met key xs j (set n (markOf m) true) (set v j (lowOf m))
+      unfolding every x rest
+      met-turn =
+          record {
+            bound = omega (arith, h .bound);
+            marks = simp length-set (h .marks);
+            lows = simp length-set (h .lows);
+            seen = rw (front, is, marking-self n (h .marks) m)
+                (every-imp (λ y. marked n (key y)) (λ y. marked (set n (markOf m) true) (key y)) (λ y. marking-keeps n (h .marks) m (key y)) rest (h .seen));
+            kept = rw (front, is, drop-set v j (lowOf m) (omega (arith, h .bound, h .lows)), eq-eqb (lowOf m) (lowOf m) refl)
+                (every-imp (λ y. isListed (drop (j + 1) v) (key y)) (λ y. isListed (lowOf m ∷ drop (j + 1) v) (key y)) (λ y. listed-more (lowOf m) (drop (j + 1) v) (key y)) rest (h .kept));
+          }
 
-    clear-told : cond (b && getD n (m % 256) false) clear true ≡ every (λ y. not (clashes (key x) (key y))) rest
-    unfolding clear
-    clear-told = rw is (go b (getD n (m % 256) false) refl)
-      where
-        go : (b s : Bool) → getD n (m % 256) false ≡ s → cond (b && s) clear true ≡ every (λ y. not (clashes (cond b (some m) none) (key y))) rest
-        go false s f = sym (every-true rest)
-        go true true f = refl
-        go true false f = sym (every-imp (λ y. marked n (key y)) (λ y. not (has (key y) m)) (λ y. unmarked n m f (key y)) rest rest-seen)
+      -- t: whether it is compared
+      pub new-told : (t : Bool) → t ≡ (getD n (markOf m) false && holds (lowOf m) v)
+          → cond t (every (λ y. not (has (key y) m)) (drop (j + 1) xs)) true ≡ isNew key xs j
+      unfolding isNew
+      new-told t e = rw (is, e) (go (getD n (markOf m) false) refl (holds (lowOf m) v) refl)
+        where
+          go : (a : Bool) → getD n (markOf m) false ≡ a → (b : Bool) → holds (lowOf m) v ≡ b
+              → cond (a && b) (every (λ y. not (has (key y) m)) (drop (j + 1) xs)) true ≡ every (λ y. not (has (key y) m)) (drop (j + 1) xs)
+          go true f true g = refl
+          go true f false g =
+              sym (every-imp (λ y. isListed (drop (j + 1) v) (key y)) (λ y. not (has (key y) m)) (λ y q. unlisted v m g (key y) (listed-drop (j + 1) v (key y) q)) (drop (j + 1) xs) (h .kept))
+          go false f b g = sym (every-imp (λ y. marked n (key y)) (λ y. not (has (key y) m)) (λ y. unmarked n m f (key y)) (drop (j + 1) xs) (h .seen))
 
-    told-turn : (ok && cond (b && getD n (m % 256) false) clear true) ≡ differ key (drop j xs)
-    unfolding apart
-    told-turn =
-        ap₂ _&&_ rest-told clear-told
-        ∙ and-comm (differ key rest) (every (λ y. not (clashes (key x) (key y))) rest)
-        ∙ sym (ap (differ key) front)
+  -- the slots from j on differ where the first is new and those after it differ
+  pub differ-turn : (j : ℕ) → j < length xs → differ key (drop j xs) ≡ (isNew key xs j && differ key (drop (j + 1) xs))
+  unfolding apart isNew
+  differ-turn j h =
+      let e : drop j xs ≡ getD xs j none ∷ drop (j + 1) xs = drop-cons xs j none h ∙ rw (add-one j) in
+      ap (differ key) e
 
-    seen-turn : every (λ y. marked (marking n b m) (key y)) (drop j xs) ≡ true
-    unfolding every
-    seen-turn =
-        rw (front, is, marking-self n (h .marks) b m)
-        (every-imp (λ y. marked n (key y)) (λ y. marked (marking n b m) (key y)) (λ y. marking-keeps n (h .marks) b m (key y)) rest rest-seen)
-
-    pub passed-turn : Passed key xs j (ok && cond (b && getD n (m % 256) false) (every (λ y. not (has (key y) m)) (drop (j + 1) xs)) true) (marking n b m)
-    unfolding clear rest
-    passed-turn = record { bound = omega (arith, h .bound); marks = simp length-set (h .marks); told = told-turn; seen = seen-turn }
+  pub differ-end : (j : ℕ) → length xs ≤ j → differ key (drop j xs) ≡ true
+  unfolding apart
+  differ-end j h = rw (drop-of-length-le xs {i = j} h)

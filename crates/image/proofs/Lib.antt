@@ -6,6 +6,9 @@ pub mod Places
 pub mod Differ
 pub mod Marks
 pub mod Parts
+pub mod Zeros
+pub mod Fields
+pub mod Walk
 pub mod Split
 pub mod Stores
 pub mod Guards

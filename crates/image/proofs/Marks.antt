@@ -3,12 +3,12 @@ use mathlib.Core.Path.{_≡_, refl, sym, ap, _∙_}
 use mathlib.Core.Bool.{Bool, true, false, cond, not, _&&_}
 use mathlib.Core.Option.{Option, none, some}
 use mathlib.Core.List.{List}
-use Prim.Native.Nat.{ℕ, _+_, _%_, _≤_}
+use Prim.Native.Nat.{ℕ, _+_, _<_}
 use native.Mathlib.Omega.{arith}
 use lib.Dec.{eqb}
 use borrow.Author.Tests.{eqb-true}
 use lib.ListN.{length, getD, set, drop}
-use Rattle.octets.specs.Lists.{every}
+use Rattle.octets.specs.Lists.{every, holds}
 use Rattle.codec.specs.Codec.{isOne, getNumber}
 use Rattle.codec.proofs.Arrays.{getArray-length, array-place}
 use Rattle.session.specs.Named.{waitsOn}
@@ -17,15 +17,15 @@ use Rattle.session.specs.declared.Phase.the-variants.{Idle, SignedIn, Awaiting,
 use Rattle.server.specs.Limits.{mostConnections}
 use Rattle.server.specs.Server.{Slot}
 use Rattle.server.specs.Slots.{isNumbered, isWaiting, holding}
-use Rattle.server.specs.WellFormed.{numberOf, ticketOf, phaseTicket, has, differ}
+use Rattle.server.specs.WellFormed.{numberOf, ticketOf, phaseTicket, has}
 use Rattle.server.specs.declared.Connection.{Connection}
 use Rattle.image.specs.Sizes.{connectionSession, sessionPhase, slotSize, serverSlots}
 use Rattle.image.specs.Layout.{phaseAt, connection, slot}
 use Rattle.image.specs.InPlace.{slotOffset}
-use Rattle.image.specs.Private.{slotsAt, Passed}
+use Rattle.image.specs.Private.{slotsAt, lowOf, markOf, Met, isNew}
 use Rattle.image.proofs.Offsets.{phase-get, connection-get, slot-get, slot-size}
 use Rattle.image.proofs.Places.{phase-place}
-use Rattle.image.proofs.Differ.{marking, or-true, passed-start, passed-end, passed-skip, passed-turn}
+use Rattle.image.proofs.Differ.{met-start, met-skip, met-turn, new-none, new-told}
 
 -- ---- the two keys, by the tests of a slot
 
@@ -80,48 +80,79 @@ module _ (l : List ℕ) (at : ℕ) where
           ∙ ticket-at tag (getD l (at + (1 + connectionSession + sessionPhase) + 1) 0) ticket
       go false = refl
 
--- ---- the loops
+-- ---- the walk
 
 module _ (l : List ℕ) where
   slots-counted : length (slotsAt l) ≡ mostConnections
   slots-counted = getArray-length slot mostConnections l serverSlots
 
-  pub marks-start : (key : Slot → Option ℕ) (n : List Bool) → length n ≡ 256 → Passed key (slotsAt l) mostConnections true n
-  marks-start key n h = passed-start key (slotsAt l) mostConnections n slots-counted h
+  pub marks-start : (key : Slot → Option ℕ) (n : List Bool) (v : List ℕ) → length n ≡ 256 → length v ≡ mostConnections → Met key (slotsAt l) mostConnections n v
+  marks-start key n v h k = met-start key (slotsAt l) mostConnections n v slots-counted h (k ∙ sym slots-counted)
 
-  module _ (i : ℕ) (ok : Bool) (n : List Bool) (bound : i ≤ mostConnections) (j : ℕ) (e : i ≡ j + 1) where
-    here : getD (slotsAt l) j (slot .get l (slotOffset j)) ≡ slot .get l (slotOffset j)
-    here = array-place slot slotSize slot-size mostConnections l serverSlots j (slot .get l (slotOffset j)) (omega arith)
+  pub lows-counted : (key : Slot → Option ℕ) (i : ℕ) (n : List Bool) (v : List ℕ) → Met key (slotsAt l) i n v → length v ≡ mostConnections
+  lows-counted key i n v h = h .lows ∙ slots-counted
 
-    -- a slot that has no number, or no ticket
-    pub numbers-skip : Passed numberOf (slotsAt l) i ok n → isOne (getD l (slotOffset j) 0) ≡ false → Passed numberOf (slotsAt l) j ok n
-    numbers-skip h f = passed-skip numberOf (slotsAt l) i ok n h j e (slot .get l (slotOffset j)) here (number-key l (slotOffset j) ∙ rw f)
+  module _ (j : ℕ) (bound : j < mostConnections) where
+    here : getD (slotsAt l) j none ≡ slot .get l (slotOffset j)
+    here = array-place slot slotSize slot-size mostConnections l serverSlots j none bound
 
-    pub tickets-skip : Passed ticketOf (slotsAt l) i ok n → (isOne (getD l (slotOffset j) 0) && eqb (tag l (slotOffset j)) 3) ≡ false → Passed ticketOf (slotsAt l) j ok n
-    tickets-skip h f = passed-skip ticketOf (slotsAt l) i ok n h j e (slot .get l (slotOffset j)) here (ticket-key l (slotOffset j) ∙ rw f)
+    number-open : isOne (getD l (slotOffset j) 0) ≡ true → numberOf (getD (slotsAt l) j none) ≡ some (getNumber 8 l (slotOffset j + 1))
+    number-open f = ap numberOf here ∙ number-key l (slotOffset j) ∙ rw f
 
-    -- one that has
-    pub numbers-turn : Passed numberOf (slotsAt l) i ok n → isOne (getD l (slotOffset j) 0) ≡ true → (number : ℕ) (clear : Bool)
-        → number ≡ getNumber 8 l (slotOffset j + 1)
-        → clear ≡ cond (getD n (number % 256) false) (every (λ y. not (holding (isNumbered number) y)) (drop (j + 1) (slotsAt l))) true
-        → Passed numberOf (slotsAt l) j (ok && clear) (set n (number % 256) true)
-    numbers-turn h t number clear en ec =
-        let is : numberOf (slot .get l (slotOffset j)) ≡ some number = rw en (number-key l (slotOffset j) ∙ rw t) in
-        let f : every (λ y. not (has (numberOf y) number)) (drop (j + 1) (slotsAt l)) ≡ every (λ y. not (holding (isNumbered number) y)) (drop (j + 1) (slotsAt l)) =
-        λ k. every (λ y. not (has-number number y k)) (drop (j + 1) (slotsAt l)) in
-        let z : marking n true number ≡ set n (number % 256) true = ap (λ (b : Bool). set n (number % 256) b) (or-true (getD n (number % 256) false)) in
-        rw (ec, ← f, ← z) (passed-turn numberOf (slotsAt l) i ok n h j e (slot .get l (slotOffset j)) here true number is)
+    number-free : isOne (getD l (slotOffset j) 0) ≡ false → numberOf (getD (slotsAt l) j none) ≡ none
+    number-free f = ap numberOf here ∙ number-key l (slotOffset j) ∙ rw f
 
-    pub tickets-turn : Passed ticketOf (slotsAt l) i ok n → (isOne (getD l (slotOffset j) 0) && eqb (tag l (slotOffset j)) 3) ≡ true → (t : ℕ) (clear : Bool)
-        → t ≡ ticket l (slotOffset j)
-        → clear ≡ cond (getD n (t % 256) false) (every (λ y. not (holding (isWaiting t) y)) (drop (j + 1) (slotsAt l))) true
-        → Passed ticketOf (slotsAt l) j (ok && clear) (set n (t % 256) true)
-    tickets-turn h w t clear en ec =
-        let is : ticketOf (slot .get l (slotOffset j)) ≡ some t = rw en (ticket-key l (slotOffset j) ∙ rw w) in
-        let f : every (λ y. not (has (ticketOf y) t)) (drop (j + 1) (slotsAt l)) ≡ every (λ y. not (holding (isWaiting t) y)) (drop (j + 1) (slotsAt l)) =
-        λ k. every (λ y. not (has-ticket t y k)) (drop (j + 1) (slotsAt l)) in
-        let z : marking n true t ≡ set n (t % 256) true = ap (λ (b : Bool). set n (t % 256) b) (or-true (getD n (t % 256) false)) in
-        rw (ec, ← f, ← z) (passed-turn ticketOf (slotsAt l) i ok n h j e (slot .get l (slotOffset j)) here true t is)
+    ticket-open : isOne (getD l (slotOffset j) 0) ≡ true → (b : Bool) → eqb (tag l (slotOffset j)) 3 ≡ b
+        → ticketOf (getD (slotsAt l) j none) ≡ cond b (some (ticket l (slotOffset j))) none
+    ticket-open f b g = ap ticketOf here ∙ ticket-key l (slotOffset j) ∙ rw (f, g)
 
-  pub marks-end : (key : Slot → Option ℕ) (i : ℕ) (ok : Bool) (n : List Bool) → Passed key (slotsAt l) i ok n → i ≤ 0 → ok ≡ differ key (slotsAt l)
-  marks-end key i ok n h z = passed-end key (slotsAt l) i ok n h z
+    ticket-free : isOne (getD l (slotOffset j) 0) ≡ false → ticketOf (getD (slotsAt l) j none) ≡ none
+    ticket-free f = ap ticketOf here ∙ ticket-key l (slotOffset j) ∙ rw f
+
+    -- a free slot is new, and nothing is met of it
+    module _ (n : List Bool) (v : List ℕ) (f : isOne (getD l (slotOffset j) 0) ≡ false) where
+      pub number-skips : Met numberOf (slotsAt l) (j + 1) n v → Met numberOf (slotsAt l) j n v
+      number-skips h = met-skip numberOf (slotsAt l) j n v h (number-free f)
+
+      pub ticket-skips : Met ticketOf (slotsAt l) (j + 1) n v → Met ticketOf (slotsAt l) j n v
+      ticket-skips h = met-skip ticketOf (slotsAt l) j n v h (ticket-free f)
+
+      pub free-new : Met numberOf (slotsAt l) (j + 1) n v → true ≡ isNew numberOf (slotsAt l) j
+      free-new h = new-none numberOf (slotsAt l) j n v h (number-free f)
+
+      pub free-new-ticket : Met ticketOf (slotsAt l) (j + 1) n v → true ≡ isNew ticketOf (slotsAt l) j
+      free-new-ticket h = new-none ticketOf (slotsAt l) j n v h (ticket-free f)
+
+    module _ (n : List Bool) (v : List ℕ) (f : isOne (getD l (slotOffset j) 0) ≡ true) where
+      -- an open one: m is its number, t whether it is compared, r what comes of that
+      pub number-adds : Met numberOf (slotsAt l) (j + 1) n v → (m : ℕ) (t r : Bool) (n₁ : List Bool) (v₁ : List ℕ)
+          → m ≡ getNumber 8 l (slotOffset j + 1)
+          → t ≡ (getD n (markOf m) false && holds (lowOf m) v)
+          → n₁ ≡ set n (markOf m) true
+          → v₁ ≡ set v j (lowOf m)
+          → r ≡ cond t (every (λ y. not (holding (isNumbered m) y)) (drop (j + 1) (slotsAt l))) true
+          → (r ≡ isNew numberOf (slotsAt l) j) × Met numberOf (slotsAt l) j n₁ v₁
+      number-adds h m t r n₁ v₁ em et en ev er =
+          let is : numberOf (getD (slotsAt l) j none) ≡ some m = rw em (number-open f) in
+          let g : every (λ y. not (has (numberOf y) m)) (drop (j + 1) (slotsAt l)) ≡ every (λ y. not (holding (isNumbered m) y)) (drop (j + 1) (slotsAt l)) =
+          λ k. every (λ y. not (has-number m y k)) (drop (j + 1) (slotsAt l)) in
+          (er ∙ rw (← g) (new-told numberOf (slotsAt l) j n v h m is t et), rw (en, ev) (met-turn numberOf (slotsAt l) j n v h m is))
+
+      pub ticket-adds : Met ticketOf (slotsAt l) (j + 1) n v → eqb (tag l (slotOffset j)) 3 ≡ true → (m : ℕ) (t r : Bool) (n₁ : List Bool) (v₁ : List ℕ)
+          → m ≡ ticket l (slotOffset j)
+          → t ≡ (getD n (markOf m) false && holds (lowOf m) v)
+          → n₁ ≡ set n (markOf m) true
+          → v₁ ≡ set v j (lowOf m)
+          → r ≡ cond t (every (λ y. not (holding (isWaiting m) y)) (drop (j + 1) (slotsAt l))) true
+          → (r ≡ isNew ticketOf (slotsAt l) j) × Met ticketOf (slotsAt l) j n₁ v₁
+      ticket-adds h w m t r n₁ v₁ em et en ev er =
+          let is : ticketOf (getD (slotsAt l) j none) ≡ some m = rw em (ticket-open f true w) in
+          let g : every (λ y. not (has (ticketOf y) m)) (drop (j + 1) (slotsAt l)) ≡ every (λ y. not (holding (isWaiting m) y)) (drop (j + 1) (slotsAt l)) =
+          λ k. every (λ y. not (has-ticket m y k)) (drop (j + 1) (slotsAt l)) in
+          (er ∙ rw (← g) (new-told ticketOf (slotsAt l) j n v h m is t et), rw (en, ev) (met-turn ticketOf (slotsAt l) j n v h m is))
+
+      -- one that waits on no ticket
+      pub ticket-passes : Met ticketOf (slotsAt l) (j + 1) n v → eqb (tag l (slotOffset j)) 3 ≡ false
+          → (true ≡ isNew ticketOf (slotsAt l) j) × Met ticketOf (slotsAt l) j n v
+      ticket-passes h w =
+          (new-none ticketOf (slotsAt l) j n v h (ticket-open f false w), met-skip ticketOf (slotsAt l) j n v h (ticket-open f false w))

@@ -1,7 +1,6 @@
--- Parts of an image written into a local of zeros, and tested where they stand. Assumes nothing.
+-- Parts of an image tested where they stand. Assumes nothing.
 use mathlib.Core.Path.{_≡_, sym, ap, _∙_}
 use mathlib.Core.Bool.{true, false, cond, _&&_, and-true}
-use mathlib.Core.Option.{some}
 use mathlib.Core.List.{List}
 use Prim.Native.Nat.{ℕ, zero, suc, _+_, _^_, _<_, _≤_}
 use native.Mathlib.Omega.{arith}
@@ -9,34 +8,20 @@ use native.Mathlib.Nat.{pow-suc}
 use borrow.Author.Tests.{lt-ltb, le-leb, lt-leb}
 use lib.ListN.{getD, replicate}
 use Rattle.codec.specs.Codec.{isOne, getNumber, getArray, listed}
-use Rattle.codec.specs.Stored.{stored}
 use Rattle.codec.specs.InPlace.{standsAt, canonicalAt}
-use Rattle.codec.proofs.Stored.{stored-whole}
 use Rattle.codec.proofs.InPlace.{everyPlace}
 use Rattle.codec.proofs.Listed.{placeAt, canonical-places, canonical-option}
 use Rattle.server.specs.Limits.{mostMechanisms, numberBound}
 use Rattle.server.specs.WellFormed.{headerWithin, slotWithin}
-use Rattle.server.specs.declared.Connection.{Connection}
 use Rattle.server.specs.declared.Header.{Header}
 use Rattle.server.specs.declared.Mechanism.{Mechanism}
 use Rattle.server.specs.declared.Mechanisms.{Mechanisms}
-use Rattle.image.specs.Sizes.{connectionSize, slotSize, mechanismSize, headerSize, serverMechanisms}
+use Rattle.image.specs.Sizes.{slotSize, mechanismSize, serverMechanisms}
 use Rattle.image.specs.Layout.{connection, slot, mechanism, header}
 use Rattle.image.specs.InPlace.{mechanismOffset, tableAt}
-use Rattle.image.specs.Private.{headerFits, slotFits}
-use Rattle.image.proofs.Lawful.{connection-lawful, mechanism-lawful, header-lawful}
-use Rattle.image.proofs.Offsets.{header-get, header-size, mechanism-size, connection-size, slot-size, slot-get}
-
--- ---- a value over as many zeros is what it is written as
-
-pub own-header : (h : Header) → stored (replicate headerSize 0) 0 (header .put h) ≡ header .put h
-own-header h = stored-whole (replicate headerSize 0) (header .put h) (sym (header-lawful .put-length h ∙ header-size))
-
-pub own-mechanism : (m : Mechanism) → stored (replicate mechanismSize 0) 0 (mechanism .put m) ≡ mechanism .put m
-own-mechanism m = stored-whole (replicate mechanismSize 0) (mechanism .put m) (sym (mechanism-lawful .put-length m ∙ mechanism-size))
-
-pub own-connection : (c : Connection) → stored (replicate connectionSize 0) 0 (connection .put c) ≡ connection .put c
-own-connection c = stored-whole (replicate connectionSize 0) (connection .put c) (sym (connection-lawful .put-length c ∙ connection-size))
+use Rattle.image.specs.Private.{connectionFits, slotFits}
+use Rattle.image.proofs.Lawful.{mechanism-lawful}
+use Rattle.image.proofs.Offsets.{header-get, mechanism-size, slot-size, slot-get}
 
 -- ---- a header: what eight octets are read as is below 2^64
 
@@ -51,10 +36,6 @@ pub header-below : (l : List ℕ) → ((i : ℕ) → getD l i 0 < 256) → heade
 unfolding headerWithin
 header-below l o =
     rw (header-get, lt-ltb (getNumber 8 l 0) numberBound (number-below l o 8 0), lt-ltb (getNumber 8 l 8) numberBound (number-below l o 8 8))
-
-pub header-fits : (l : List ℕ) → ((i : ℕ) → getD l i 0 < 256) → canonicalAt header l 0 ≡ headerFits l
-unfolding headerFits
-header-fits l o = rw (header-below l o) (sym (and-true (canonicalAt header l 0)))
 
 -- ---- the mechanisms: w is whether they stand there
 
@@ -78,8 +59,8 @@ module _ (l : List ℕ) (h : Header) (at : ℕ) where
   unfolding slot
   slot-canonical = canonical-option connection slotSize slot-size l at
 
-  pub slot-open : isOne (getD l at 0) ≡ true → (canonicalAt connection l (at + 1) && slotWithin h (some (connection .get l (at + 1)))) ≡ slotFits l h at
-  unfolding slotFits
+  pub slot-open : isOne (getD l at 0) ≡ true → connectionFits l h (at + 1) ≡ slotFits l h at
+  unfolding slotFits connectionFits
   slot-open e = rw (slot-canonical, slot-get, e)
 
   pub slot-free : isOne (getD l at 0) ≡ false → standsAt (replicate slotSize 0) l at ≡ slotFits l h at

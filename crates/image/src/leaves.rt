@@ -15,18 +15,19 @@ pub(crate) fn octet_at(image: &[u8], at: usize) -> u64
     image[at] as u64
 }
 
+// Written flat, it is compiled to one load; written as one product within another it often is not.
 pub(crate) fn read_number(image: &[u8], at: usize) -> u64
     requires { ⌜ at + 8 ≤ length (now image) ⌝ }
     ensures { λ r. ⌜ r ≡ getNumber 8 (now (image .entry)) at ⌝ }
 {
-    let n7 = octet_at(image, at + 7);
-    let n6 = octet_at(image, at + 6) + 256 * n7;
-    let n5 = octet_at(image, at + 5) + 256 * n6;
-    let n4 = octet_at(image, at + 4) + 256 * n5;
-    let n3 = octet_at(image, at + 3) + 256 * n4;
-    let n2 = octet_at(image, at + 2) + 256 * n3;
-    let n1 = octet_at(image, at + 1) + 256 * n2;
-    octet_at(image, at) + 256 * n1
+    octet_at(image, at)
+        + 256 * octet_at(image, at + 1)
+        + 65536 * octet_at(image, at + 2)
+        + 16777216 * octet_at(image, at + 3)
+        + 4294967296 * octet_at(image, at + 4)
+        + 1099511627776 * octet_at(image, at + 5)
+        + 281474976710656 * octet_at(image, at + 6)
+        + 72057594037927936 * octet_at(image, at + 7)
 }
 
 pub(crate) fn write_number(image: &mut [u8], at: usize, number: u64)
@@ -102,16 +103,16 @@ pub(crate) fn clear(image: &mut [u8])
     }
 }
 
-// Whether these octets stand from index at on. It looks at all of them: no branch in the loop.
-pub(crate) fn stands_at(octets: &[u8], image: &[u8], at: usize) -> bool
-    requires { ⌜ at + length (now octets) ≤ length (now image) ⌝ }
-    ensures { λ r. ⌜ r ≡ standsAt (now (octets .entry)) (now (image .entry)) at ⌝ }
+// Whether so many octets from index at on are NUL. It looks at all of them: no branch in the loop.
+pub(crate) fn are_zeros(image: &[u8], at: usize, count: usize) -> bool
+    requires { ⌜ at + count ≤ length (now image) ⌝ }
+    ensures { λ r. ⌜ r ≡ standsAt (replicate count 0) (now (image .entry)) at ⌝ }
 {
-    let mut same = true;
+    let mut zeros = true;
     let mut i = 0;
-    while i < octets.len() {
-        same = same & (octets[i] == image[at + i]);
+    while i < count {
+        zeros = zeros & (image[at + i] == 0);
         i += 1;
     }
-    same
+    zeros
 }

@@ -41,9 +41,7 @@ pub fn is_taken(image: &[u8]) -> bool
         return false;
     }
     let header = records::read_header(image, 0);
-    let differ = unique::numbers_differ(image) & unique::tickets_differ(image);
-    fits::header_fits(image)
-        & (fits::mechanisms_fit(image) & (fits::slots_fit(image, header) & differ))
+    fits::header_fits(image) & (fits::mechanisms_fit(image) & fits::slots_fit(image, header))
 }
 
 // The open connection with this number.

@@ -9,18 +9,13 @@ returns-2 c =
     let c₁ = c .before in
     let c₂ = c₁ .before in
     let c₃ = c₂ .before in
-    let c₄ = c₃ .before in
-    let c₅ = c₄ .before in
-    rw (c .slots-fit .ensures, c₁ .mechanisms-fit .ensures, c₂ .header-fits .ensures, c₃ .tickets-differ .ensures, c₄ .numbers-differ .ensures, c₅ .read-header .ensures)
-    (sym (taken-split _ (c₅ .before .if1 .left)))
+    rw (c .slots-fit .ensures, c₁ .mechanisms-fit .ensures, c₂ .header-fits .ensures, c₃ .read-header .ensures) (sym (taken-split _ (c₃ .before .if1 .left)))
 
 pub is-taken-spec : {M : Type 1} → statement M
 is-taken-spec =
     tie.close
     (tie.spec
     (λ c. sym (taken-other _ (c .if1 .taken)))
-    (λ c κs. search needs)
-    (λ c κs. search needs)
     (λ c κs. search needs)
     (λ c κs. search needs)
     (λ c κs. search needs)

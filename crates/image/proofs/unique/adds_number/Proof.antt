@@ -1,22 +1,18 @@
-use mathlib.Core.Bool.{and-true}
-use mathlib.Core.Path.{refl, sym, _∙_}
-use Prim.Native.Nat.{_+_}
-use native.Mathlib.Omega.{arith}
-use borrow.Author.Tests.{not-true, not-false}
 use borrow.Author.Needs.{needs}
-use Rattle.image.proofs.Marks.{numbers-skip, numbers-turn}
+use Rattle.image.proofs.Marks.{lows-counted, number-adds}
 use Rattle.image.proofs.unique.adds_number.Statement.{statement}
 use Rattle.image.proofs.unique.adds_number.Tie as tie
 
 returns : tie.Need-returns
 returns c =
-    let a = c .before .before .before .args in
-    λ ok h. rw (and-true ok) (numbers-skip (a .image .now) (a .i + 1) ok (a .marks .now) (omega arith) (a .i) refl h (sym (c .before .read-flag .ensures) ∙ not-true _ (c .if1 .taken)))
-
-returns-2 : tie.Need-returns-2
-returns-2 c =
-    let a = c .before .before .before .before .before .before .args in
-    λ ok h. numbers-turn (a .image .now) (a .i + 1) ok (a .marks .now) (omega arith) (a .i) refl h (sym (c .before .before .before .before .read-flag .ensures) ∙ not-false _ (c .before .before .before .if1 .left)) _ _ (c .before .before .read-number .ensures) (c .is-new-number .ensures)
+    let c₁ = c .before in
+    let c₂ = c₁ .before in
+    let c₄ = c₂ .before .before in
+    let c₆ = c₄ .before .before in
+    let s = c₆ .before .before in
+    let e = c₂ .low-of .ensures in
+    number-adds (s .args .image .now) (s .args .i) (s .pre .0) (s .args .marks .now) (s .args .lows .now) (s .pre .2) (s .pre .3) _ _ _ _ _
+    (c₆ .read-number .ensures) (rw (c₄ .marks-number .ensures .0, e) at (c₁ .lists .ensures .0)) (c₄ .marks-number .ensures .1) (rw e at (c₁ .lists .ensures .1)) (c .is-new-number .ensures)
 
 pub adds-number-spec : {M : Type 1} → statement M
 adds-number-spec =
@@ -24,12 +20,11 @@ adds-number-spec =
     (tie.spec
     (λ c. search needs)
     (λ c. search needs)
-    (λ c κs. search needs)
-    returns
     (λ c. search needs)
     (λ c κs. search needs)
-    (λ c. search needs)
-    (λ c. search needs)
+    (λ c κs. c .before .before .before .pre .3 .marks)
+    (λ c κs. search needs)
+    (λ c κs. (search needs, lows-counted _ _ _ _ _ (c .before .before .before .before .before .before .pre .3)))
     (λ c. search needs)
     (λ c κs. search needs)
-    returns-2)
+    returns)

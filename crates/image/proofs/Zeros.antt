@@ -1,0 +1,64 @@
+-- Zeros in two pieces that share octets, and a number that is zero. Assumes nothing.
+use mathlib.Core.Path.{_≡_, refl, sym, ap, ap₂, _∙_}
+use mathlib.Core.Bool.{Bool, true, false, _&&_}
+use mathlib.Core.List.{List}
+use Prim.Native.Nat.{ℕ, zero, suc, _+_, _*_}
+use native.Mathlib.Omega.{arith}
+use lib.Dec.{eqb}
+use borrow.Author.Tests.{eqb-true, eq-eqb}
+use lib.ListN.{getD, replicate, length-replicate, replicate-append-replicate}
+use Rattle.octets.proofs.Cases.{both}
+use Rattle.codec.specs.Codec.{putNumber, getNumber}
+use Rattle.codec.specs.InPlace.{standsAt}
+use Rattle.codec.proofs.InPlace.{standsAt-append}
+use Rattle.image.specs.Sizes.{mechanismSize, slotSize}
+
+agree : (a b : Bool) → (a ≡ true → b ≡ true) → (b ≡ true → a ≡ true) → a ≡ b
+agree true b f g = sym (f refl)
+agree false true f g = g refl
+agree false false f g = refl
+
+-- 0 stands where 0 is read
+pub number-zero : (l : List ℕ) (k at : ℕ) → standsAt (putNumber k 0) l at ≡ eqb (getNumber k l at) 0
+unfolding standsAt putNumber getNumber
+number-zero l zero at = refl
+number-zero l (suc k) at =
+    let x = getD l at 0 in
+    let n = getNumber k l (at + 1) in
+    ap (λ (b : Bool). eqb 0 x && b) (number-zero l k (at + 1))
+    ∙ agree (eqb 0 x && eqb n 0) (eqb (x + 256 * n) 0)
+    (λ h. let b = both (eqb 0 x) (eqb n 0) h in let u = eqb-true 0 x (b .0) in let v = eqb-true n 0 (b .1) in eq-eqb (x + 256 * n) 0 (omega arith))
+    (λ h. let s = eqb-true (x + 256 * n) 0 h in rw (eq-eqb 0 x (omega arith), eq-eqb n 0 (omega arith)))
+
+module _ (l : List ℕ) where
+  abbrev zeros : ℕ → ℕ → Bool
+  zeros n at = standsAt (replicate n 0) l at
+
+  -- one piece after another
+  zeros-split : (m n at : ℕ) → zeros (m + n) at ≡ (zeros m at && zeros n (at + m))
+  zeros-split m n at =
+      ap (λ (v : List ℕ). standsAt v l at) (sym (replicate-append-replicate {A = ℕ} m n 0))
+      ∙ standsAt-append (replicate m 0) (replicate n 0) l at
+      ∙ rw (length-replicate {A = ℕ} m 0)
+
+  shared : (a b c : Bool) → ((a && b) && (b && c)) ≡ (a && (b && c))
+  shared true true c = refl
+  shared true false c = refl
+  shared false b c = refl
+
+  -- two pieces that share b octets: the first has a more, the second c more
+  zeros-shared : (a b c at to : ℕ) → at + a ≡ to → (zeros (a + b) at && zeros (b + c) to) ≡ zeros (a + (b + c)) at
+  zeros-shared a b c at to e =
+      let z : zeros (b + c) (at + a) ≡ (zeros b (at + a) && zeros c (at + a + b)) = zeros-split b c (at + a) in
+      rw (← e)
+      (ap₂ _&&_ (zeros-split a b at) z
+      ∙ shared (zeros a at) (zeros b (at + a)) (zeros c (at + a + b))
+      ∙ ap (λ (t : Bool). zeros a at && t) (sym z)
+      ∙ sym (zeros-split a (b + c) at))
+
+  module _ (at : ℕ) where
+    pub slot-pieces : (zeros 64 at && zeros 32 (at + 55)) ≡ zeros slotSize at
+    slot-pieces = zeros-shared 55 9 23 at (at + 55) refl
+
+    pub mechanism-pieces : (zeros 16 at && zeros 16 (at + 6)) ≡ zeros mechanismSize at
+    mechanism-pieces = zeros-shared 6 10 6 at (at + 6) refl
