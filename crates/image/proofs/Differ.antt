@@ -1,26 +1,26 @@
--- Keys that differ, told on a walk from the last slot to the first. A table says which marks may have been met, and a list has 32 bits of each
--- key at its slot's index; only a slot whose mark and bits are there is compared with those after it. Assumes nothing.
+-- Keys that differ, told on a walk from the last slot to the first. A hash table has the slots that were met, each in a bucket of its key; only a
+-- slot whose key was met, or whose buckets are all taken, is compared with those after it. Assumes nothing.
 use mathlib.Core.Path.{_≡_, refl, sym, ap, _∙_}
-use mathlib.Core.Bool.{Bool, true, false, cond, not, _&&_, _||_, true≢false}
+use mathlib.Core.Bool.{Bool, true, false, cond, not, _&&_, true≢false}
 use mathlib.Core.List.{List, [], _∷_}
 use mathlib.Core.Option.{Option, none, some}
-use Prim.Native.Nat.{ℕ, zero, suc, _+_, _<_, _≤_}
+use Prim.Native.Nat.{ℕ, zero, suc, _+_, _/_, _%_, _<_, _≤_}
 use native.Mathlib.Omega.{arith}
 use native.Mathlib.Numerals.{add-one}
 use native.Mathlib.Decide.{ℕ-discrete}
-use lib.Dec.{eqb}
-use borrow.Author.Tests.{eqb-true, eq-eqb}
+use lib.Dec.{eqb, ltb}
+use borrow.Author.Tests.{eqb-true, eq-eqb, ne-eqb, lt-ltb, ltb-true, ltb-false}
 use lib.ListN.{length, getD, set, drop, length-set, drop-of-length-le}
 use lib.Seq.{drop-cons, getD-set-same, getD-set-other}
-use Rattle.octets.specs.Lists.{every, holds}
+use Rattle.octets.specs.Lists.{every}
 use Rattle.octets.proofs.Cases.{both}
+use Rattle.codec.proofs.Arrays.{getArray-length}
+use Rattle.server.specs.Limits.{mostConnections}
 use Rattle.server.specs.Server.{Slot}
 use Rattle.server.specs.WellFormed.{has, clashes, apart, differ}
-use Rattle.image.specs.Private.{lowOf, markOf, marked, isListed, Met, isNew}
-
-or-true : (p : Bool) → (p || true) ≡ true
-or-true true = refl
-or-true false = refl
+use Rattle.image.specs.Sizes.{serverSlots}
+use Rattle.image.specs.Layout.{slot}
+use Rattle.image.specs.Private.{buckets, firstBucket, spread, digits, bucketsOf, isOf, emptyBucket, isMet, slotsAt, Met, isNew}
 
 every-imp : {A : Type 0} (p q : A → Bool) → ((x : A) → p x ≡ true → q x ≡ true) → (xs : List A) → every p xs ≡ true → every q xs ≡ true
 unfolding every
@@ -29,150 +29,234 @@ every-imp p q h (x ∷ xs) e =
     let b = both (p x) (every p xs) e in
     rw (h x (b .0)) (every-imp p q h xs (b .1))
 
-every-true : {A : Type 0} (xs : List A) → every (λ x. true) xs ≡ true
+every-true : {A : Type 0} (xs : List A) → every (λ (x : A). true) xs ≡ true
 unfolding every
 every-true [] = refl
 every-true (x ∷ xs) = every-true xs
 
--- ---- the marks
+-- ---- the buckets of a key
 
-mark-below : (m : ℕ) → markOf m < 256
-unfolding markOf
-mark-below m = omega arith
+abbrev inTable : List ℕ → Bool
+inTable ks = every (λ k. ltb k buckets) ks
 
-module _ (n : List Bool) (len : length n ≡ 256) (m : ℕ) where
-  marking-self : marked (set n (markOf m) true) (some m) ≡ true
-  marking-self = getD-set-same n (markOf m) true false (omega (arith, mark-below m))
+digits-in : (n x : ℕ) → inTable (digits n x) ≡ true
+unfolding every digits
+digits-in zero x = refl
+digits-in (suc n) x = go (eqb x 0) (digits-in n (x / buckets))
+  where
+    go : (b : Bool) → inTable (digits n (x / buckets)) ≡ true → inTable (cond b [] (x % buckets ∷ digits n (x / buckets))) ≡ true
+    go true h = refl
+    go false h = rw (lt-ltb (x % buckets) buckets (omega arith)) h
 
-  marking-keeps : (k : Option ℕ) → marked n k ≡ true → marked (set n (markOf m) true) k ≡ true
-  marking-keeps none e = refl
-  marking-keeps (some u) e = go (ℕ-discrete (markOf u) (markOf m))
+buckets-in : (m : ℕ) → inTable (bucketsOf m) ≡ true
+unfolding every firstBucket
+buckets-in m = rw (lt-ltb (m % 509) buckets (omega arith)) (digits-in (spread m) (spread m))
+
+-- the digits do not hang on how many there may be
+digits-same : (n k x : ℕ) → x ≤ n → x ≤ k → digits n x ≡ digits k x
+unfolding digits
+digits-same zero zero x h g = refl
+digits-same zero (suc k) x h g = sym (rw (eq-eqb x 0 (omega arith)))
+digits-same (suc n) zero x h g = rw (eq-eqb x 0 (omega arith))
+digits-same (suc n) (suc k) x h g =
+    ap (λ (v : List ℕ). cond (eqb x 0) [] (x % buckets ∷ v)) (digits-same n k (x / buckets) (omega arith) (omega arith))
+
+pub digits-turn : (x : ℕ) → 0 < x → digits x x ≡ x % buckets ∷ digits (x / buckets) (x / buckets)
+unfolding digits
+digits-turn zero h = absurd (omega arith)
+digits-turn (suc x) h =
+    rw (ne-eqb (suc x) 0 (λ e. omega arith))
+    (ap (λ (v : List ℕ). suc x % buckets ∷ v) (digits-same x (suc x / buckets) (suc x / buckets) (omega arith) (omega arith)))
+
+pub digits-end : (x : ℕ) → x ≤ 0 → digits x x ≡ []
+unfolding digits
+digits-end zero h = refl
+digits-end (suc x) h = absurd (omega arith)
+
+-- ---- the table: n, what its buckets have; o, where a slot has its key
+
+module _ (l : List ℕ) (o : ℕ) (n : List ℕ) (m : ℕ) where
+  empty-in : (ks : List ℕ) → inTable ks ≡ true → (k : ℕ) → emptyBucket l o n m ks ≡ k → k < buckets → getD n k 0 ≡ 0
+  unfolding every emptyBucket
+  empty-in [] a k e h = absurd (omega (arith, e))
+  empty-in (j ∷ ks) a k e h = go (eqb (getD n j 0) 0) refl (isOf l o (getD n j 0) m) e (λ g. empty-in ks (both (ltb j buckets) (inTable ks) a .1) k g h)
     where
-      go : Dec (markOf u ≡ markOf m) → getD (set n (markOf m) true) (markOf u) false ≡ true
-      go (yes q) = rw q marking-self
-      go (no q) = getD-set-other n (markOf m) (markOf u) true false q ∙ e
+      go : (b : Bool) → eqb (getD n j 0) 0 ≡ b → (c : Bool) → cond b j (cond c buckets (emptyBucket l o n m ks)) ≡ k → (emptyBucket l o n m ks ≡ k → getD n k 0 ≡ 0) → getD n k 0 ≡ 0
+      go true f c g r = rw (← g) (eqb-true (getD n j 0) 0 f)
+      go false f true g r = absurd (omega (arith, g))
+      go false f false g r = r g
 
--- a key whose mark is not set is none of those whose marks are
-unmarked : (n : List Bool) (m : ℕ) → getD n (markOf m) false ≡ false → (k : Option ℕ) → marked n k ≡ true → not (has k m) ≡ true
-unmarked n m f none e = refl
-unmarked n m f (some u) e = go (eqb u m) refl
-  where
-    go : (c : Bool) → eqb u m ≡ c → not (eqb u m) ≡ true
-    go false h = rw h
-    go true h = absurd (true≢false (sym e ∙ ap (λ (j : ℕ). getD n (markOf j) false) (eqb-true u m h) ∙ f))
+  -- the search: k, the bucket looked at; x, the number whose digits are to come; w, what the whole comes to
+  module _ (k : ℕ) (e : k ≡ firstBucket m) where
+    pub first-empty : getD n k 0 ≡ 0 → k ≡ emptyBucket l o n m (bucketsOf m)
+    unfolding emptyBucket
+    first-empty z = e ∙ sym (rw (eq-eqb (getD n (firstBucket m) 0) 0 (ap (λ (j : ℕ). getD n j 0) (sym e) ∙ z)))
 
--- ---- the list
+    module _ (z : getD n k 0 ≡ 0 → ⊥) where
+      taken : eqb (getD n (firstBucket m) 0) 0 ≡ false
+      taken = ne-eqb (getD n (firstBucket m) 0) 0 (λ q. z (ap (λ (j : ℕ). getD n j 0) e ∙ q))
 
-holds-drop : (x i : ℕ) (v : List ℕ) → holds x (drop i v) ≡ true → holds x v ≡ true
-holds-drop x zero v e = e
-holds-drop x (suc i) [] e = e
-holds-drop x (suc i) (y ∷ v) e = rw (holds-drop x i v e) (or-true (eqb y x))
+      pub first-met : isOf l o (getD n k 0) m ≡ true → buckets ≡ emptyBucket l o n m (bucketsOf m)
+      unfolding emptyBucket
+      first-met f = sym (rw (taken, ← e, f))
 
-listed-drop : (i : ℕ) (v : List ℕ) (k : Option ℕ) → isListed (drop i v) k ≡ true → isListed v k ≡ true
-listed-drop i v none e = refl
-listed-drop i v (some m) e = holds-drop (lowOf m) i v e
+      pub first-other : isOf l o (getD n k 0) m ≡ false → (x : ℕ) → x ≡ spread m → emptyBucket l o n m (bucketsOf m) ≡ emptyBucket l o n m (digits x x)
+      unfolding emptyBucket
+      first-other f x s = rw (taken, ← e, f, s)
 
-listed-more : (y : ℕ) (v : List ℕ) (k : Option ℕ) → isListed v k ≡ true → isListed (y ∷ v) k ≡ true
-listed-more y v none e = refl
-listed-more y v (some m) e = rw e (or-true (eqb y (lowOf m)))
+  module _ (w x : ℕ) (inv : w ≡ emptyBucket l o n m (digits x x)) where
+    module _ (p : 0 < x) where
+      turn : w ≡ emptyBucket l o n m (x % buckets ∷ digits (x / buckets) (x / buckets))
+      turn = inv ∙ ap (emptyBucket l o n m) (digits-turn x p)
 
-unlisted : (v : List ℕ) (m : ℕ) → holds (lowOf m) v ≡ false → (k : Option ℕ) → isListed v k ≡ true → not (has k m) ≡ true
-unlisted v m f none e = refl
-unlisted v m f (some u) e = go (eqb u m) refl
-  where
-    go : (c : Bool) → eqb u m ≡ c → not (eqb u m) ≡ true
-    go false h = rw h
-    go true h = absurd (true≢false (sym e ∙ ap (λ (j : ℕ). holds (lowOf j) v) (eqb-true u m h) ∙ f))
+      pub next-empty : getD n (x % buckets) 0 ≡ 0 → x % buckets ≡ w
+      unfolding emptyBucket
+      next-empty z = sym (turn ∙ rw (eq-eqb (getD n (x % buckets) 0) 0 z))
 
--- the loop that looks for x: w is what the whole comes to, met what came of the first j
-or-assoc : (a b c : Bool) → (a || (b || c)) ≡ ((a || b) || c)
-or-assoc true b c = refl
-or-assoc false b c = refl
+      pub next-met : (getD n (x % buckets) 0 ≡ 0 → ⊥) → isOf l o (getD n (x % buckets) 0) m ≡ true → buckets ≡ w
+      unfolding emptyBucket
+      next-met z f = sym (turn ∙ rw (ne-eqb (getD n (x % buckets) 0) 0 z, f))
 
-or-false : (a : Bool) → (a || false) ≡ a
-or-false true = refl
-or-false false = refl
+      pub next-other : (getD n (x % buckets) 0 ≡ 0 → ⊥) → isOf l o (getD n (x % buckets) 0) m ≡ false → w ≡ emptyBucket l o n m (digits (x / buckets) (x / buckets))
+      unfolding emptyBucket
+      next-other z f = turn ∙ rw (ne-eqb (getD n (x % buckets) 0) 0 z, f)
 
-module _ (w met : Bool) (v : List ℕ) (x j n : ℕ) (len : length v ≡ n) (inv : w ≡ (met || holds x (drop j v))) where
-  pub holds-turn : j < n → w ≡ ((met || eqb (getD v j 0) x) || holds x (drop (j + 1) v))
-  holds-turn h =
-      let e : drop j v ≡ getD v j 0 ∷ drop (j + 1) v = drop-cons v j 0 (omega arith) ∙ rw (add-one j) in
-      inv ∙ ap (λ (u : List ℕ). met || holds x u) e ∙ or-assoc met (eqb (getD v j 0) x) (holds x (drop (j + 1) v))
+    pub next-end : x ≤ 0 → buckets ≡ w
+    unfolding emptyBucket
+    next-end h = sym (inv ∙ rw (digits-end x h))
 
-  pub holds-end : n ≤ j → w ≡ met
-  holds-end h = inv ∙ ap (λ (u : List ℕ). met || holds x u) (drop-of-length-le v {i = j} (omega arith)) ∙ or-false met
+  -- a bucket that the search gave is not taken where there is none
+  pub none-empty : (k : ℕ) → k ≡ emptyBucket l o n m (bucketsOf m) → (ltb k buckets && eqb (getD n k 0) 0) ≡ false → buckets ≤ k
+  none-empty k e f = go (ltb k buckets) refl
+    where
+      go : (b : Bool) → ltb k buckets ≡ b → buckets ≤ k
+      go false g = ltb-false k buckets g
+      go true g =
+          let z : getD n k 0 ≡ 0 = empty-in (bucketsOf m) (buckets-in m) k (sym e) (ltb-true k buckets g) in
+          absurd (true≢false (sym (rw (g, eq-eqb (getD n k 0) 0 z)) ∙ f))
 
-drop-set : (v : List ℕ) (j x : ℕ) → j < length v → drop j (set v j x) ≡ x ∷ drop (j + 1) v
-drop-set [] j x h = absurd (omega arith)
-drop-set (y ∷ v) zero x h = refl
-drop-set (y ∷ v) (suc j) x h = let e : suc j + 1 ≡ suc (j + 1) = omega arith in rw e (drop-set v j x (omega arith))
+  -- one more slot in an empty bucket: a key that was met stays so
+  module _ (k v : ℕ) (z : getD n k 0 ≡ 0) where
+    met-stays : (ks : List ℕ) → inTable ks ≡ true → emptyBucket l o n m ks ≡ buckets → emptyBucket l o (set n k v) m ks ≡ buckets
+    unfolding every emptyBucket
+    met-stays [] a e = refl
+    met-stays (j ∷ ks) a e =
+        let c = both (ltb j buckets) (inTable ks) a in
+        go (eqb (getD n j 0) 0) refl (isOf l o (getD n j 0) m) refl (ltb-true j buckets (c .0)) e (met-stays ks (c .1))
+      where
+        other : eqb (getD n j 0) 0 ≡ false → getD (set n k v) j 0 ≡ getD n j 0
+        other f = getD-set-other n k j v 0 (λ q. true≢false (sym (eq-eqb (getD n j 0) 0 (ap (λ (i : ℕ). getD n i 0) q ∙ z)) ∙ f))
 
--- ---- the walk: the marks of the slots from i on are set, and their bits are listed
+        go : (b : Bool) → eqb (getD n j 0) 0 ≡ b → (d : Bool) → isOf l o (getD n j 0) m ≡ d → j < buckets → cond b j (cond d buckets (emptyBucket l o n m ks)) ≡ buckets
+            → (emptyBucket l o n m ks ≡ buckets → emptyBucket l o (set n k v) m ks ≡ buckets) → emptyBucket l o (set n k v) m (j ∷ ks) ≡ buckets
+        go true f d g b e r = absurd (omega (arith, e, b))
+        go false f true g b e r = rw (other f, f, g)
+        go false f false g b e r = rw (other f, f, g) (r e)
+
+  -- the key of the slot itself was met then
+  module _ (k v : ℕ) (s : k < length n) (w : eqb v 0 ≡ false) (q : isOf l o v m ≡ true) where
+    met-own : (ks : List ℕ) → inTable ks ≡ true → emptyBucket l o n m ks ≡ k → k < buckets → emptyBucket l o (set n k v) m ks ≡ buckets
+    unfolding every emptyBucket
+    met-own [] a e h = refl
+    met-own (j ∷ ks) a e h =
+        go (ℕ-discrete j k) (eqb (getD n j 0) 0) refl (isOf l o (getD n j 0) m) refl e (λ g. met-own ks (both (ltb j buckets) (inTable ks) a .1) g h)
+      where
+        here : (i : ℕ) → i ≡ k → getD (set n k v) i 0 ≡ v
+        here i p = rw p (getD-set-same n k v 0 s)
+
+        go : Dec (j ≡ k) → (b : Bool) → eqb (getD n j 0) 0 ≡ b → (c : Bool) → isOf l o (getD n j 0) m ≡ c → cond b j (cond c buckets (emptyBucket l o n m ks)) ≡ k
+            → (emptyBucket l o n m ks ≡ k → emptyBucket l o (set n k v) m ks ≡ buckets) → emptyBucket l o (set n k v) m (j ∷ ks) ≡ buckets
+        go (yes p) b f c g e r = rw (here j p, w, q)
+        go (no p) true f c g e r = absurd (p e)
+        go (no p) false f true g e r = absurd (omega (arith, e))
+        go (no p) false f false g e r = rw (getD-set-other n k j v 0 p, f, g) (r e)
+
+  -- a key that was not met is none of those that were
+  unmet : (emptyBucket l o n m (bucketsOf m) ≡ buckets → ⊥) → (k : Option ℕ) → isMet l o n k ≡ true → not (has k m) ≡ true
+  unmet f none e = refl
+  unmet f (some u) e = go (eqb u m) refl
+    where
+      go : (c : Bool) → eqb u m ≡ c → not (eqb u m) ≡ true
+      go false h = rw h
+      go true h = absurd (f (eqb-true (emptyBucket l o n m (bucketsOf m)) buckets (ap (λ (j : ℕ). eqb (emptyBucket l o n j (bucketsOf j)) buckets) (sym (eqb-true u m h)) ∙ e)))
+
+-- ---- the walk
+
+module _ (l : List ℕ) where
+  counted : length (slotsAt l) ≡ mostConnections
+  counted = getArray-length slot mostConnections l serverSlots
+
+  module _ (key : Slot → Option ℕ) (o : ℕ) where
+    pub met-start : (n : List ℕ) → length n ≡ buckets → Met key o l mostConnections n
+    unfolding every
+    met-start n h =
+        record { bound = omega arith; size = h; met = rw (drop-of-length-le (slotsAt l) {i = mostConnections} (omega (arith, counted))) }
+
+    module _ (j : ℕ) (n : List ℕ) (h : Met key o l (j + 1) n) where
+      x : Slot
+      x = getD (slotsAt l) j none
+
+      rest : List Slot
+      rest = drop (j + 1) (slotsAt l)
+
+      front : drop j (slotsAt l) ≡ x ∷ rest
+      unfolding x rest
+      front = drop-cons (slotsAt l) j none (omega (arith, h .bound, counted)) ∙ rw (add-one j)
+
+      -- a slot without a key
+      pub met-skip : key (getD (slotsAt l) j none) ≡ none → Met key o l j n
+      unfolding every x rest
+      met-skip is = record { bound = omega (arith, h .bound); size = h .size; met = rw (front, is) (h .met) }
+
+      pub new-none : key (getD (slotsAt l) j none) ≡ none → true ≡ isNew key (slotsAt l) j
+      unfolding isNew
+      new-none is = rw is (sym (every-true (drop (j + 1) (slotsAt l))))
+
+      -- one that has a key m; k is its empty bucket, if there is one
+      module _ (m : ℕ) (is : key (getD (slotsAt l) j none) ≡ some m) (k : ℕ) (e : k ≡ emptyBucket l o n m (bucketsOf m)) where
+        stays : (v : ℕ) → k < buckets → (y : Slot) → isMet l o n (key y) ≡ true → isMet l o (set n k v) (key y) ≡ true
+        stays v b y = go (key y)
+          where
+            go : (u : Option ℕ) → isMet l o n u ≡ true → isMet l o (set n k v) u ≡ true
+            go none f = refl
+            go (some u) f =
+                eq-eqb (emptyBucket l o (set n k v) u (bucketsOf u)) buckets
+                (met-stays l o n u k v (empty-in l o n m (bucketsOf m) (buckets-in m) k (sym e) b) (bucketsOf u) (buckets-in u)
+                (eqb-true (emptyBucket l o n u (bucketsOf u)) buckets f))
+
+        -- it takes the bucket, v
+        module _ (b : k < buckets) where
+          pub new-found : true ≡ isNew key (slotsAt l) j
+          unfolding isNew
+          new-found =
+              rw is (sym (every-imp (λ y. isMet l o n (key y)) (λ y. not (has (key y) m)) (λ y. unmet l o n m (λ q. omega (arith, q, e)) (key y)) (drop (j + 1) (slotsAt l)) (h .met)))
+
+          pub met-taken : (v : ℕ) → eqb v 0 ≡ false → isOf l o v m ≡ true → Met key o l j (set n k v)
+          unfolding every x rest
+          met-taken v w q =
+              record {
+                bound = omega (arith, h .bound);
+                size = simp length-set (h .size);
+                met = rw (front, is, eq-eqb (emptyBucket l o (set n k v) m (bucketsOf m)) buckets (met-own l o n m k v (omega (arith, h .size)) w q (bucketsOf m) (buckets-in m) (sym e) b))
+                    (every-imp (λ y. isMet l o n (key y)) (λ y. isMet l o (set n k v) (key y)) (stays v b) rest (h .met));
+              }
+
+        -- it is compared
+        module _ (b : buckets ≤ k) (c : k ≤ buckets) where
+          pub new-compared : every (λ y. not (has (key y) m)) (drop (j + 1) (slotsAt l)) ≡ isNew key (slotsAt l) j
+          unfolding isNew
+          new-compared = rw is
+
+          pub met-compared : Met key o l j n
+          unfolding every x rest
+          met-compared =
+              record {
+                bound = omega (arith, h .bound);
+                size = h .size;
+                met = rw (front, is, eq-eqb (emptyBucket l o n m (bucketsOf m)) buckets (omega (arith, e))) (h .met);
+              }
 
 module _ (key : Slot → Option ℕ) (xs : List Slot) where
-  pub met-start : (i : ℕ) (n : List Bool) (v : List ℕ) → length xs ≡ i → length n ≡ 256 → length v ≡ length xs → Met key xs i n v
-  unfolding every
-  met-start i n v e h k =
-      let d : drop i xs ≡ [] = drop-of-length-le xs {i = i} (omega arith) in
-      record { bound = omega arith; marks = h; lows = k; seen = rw d; kept = rw d }
-
-  module _ (j : ℕ) (n : List Bool) (v : List ℕ) (h : Met key xs (j + 1) n v) where
-    x : Slot
-    x = getD xs j none
-
-    rest : List Slot
-    rest = drop (j + 1) xs
-
-    front : drop j xs ≡ x ∷ rest
-    unfolding x rest
-    front = drop-cons xs j none (omega (arith, h .bound)) ∙ rw (add-one j)
-
-    -- a slot without a key
-    pub met-skip : key (getD xs j none) ≡ none → Met key xs j n v
-    unfolding every x rest
-    met-skip is =
-        let more : drop j v ≡ getD v j 0 ∷ drop (j + 1) v = drop-cons v j 0 (omega (arith, h .bound, h .lows)) ∙ rw (add-one j) in
-        record {
-          bound = omega (arith, h .bound);
-          marks = h .marks;
-          lows = h .lows;
-          seen = rw (front, is) (h .seen);
-          kept = rw (front, is, more)
-              (every-imp (λ y. isListed (drop (j + 1) v) (key y)) (λ y. isListed (getD v j 0 ∷ drop (j + 1) v) (key y)) (λ y. listed-more (getD v j 0) (drop (j + 1) v) (key y)) rest (h .kept));
-        }
-
-    pub new-none : key (getD xs j none) ≡ none → true ≡ isNew key xs j
-    unfolding isNew
-    new-none is = rw is (sym (every-true (drop (j + 1) xs)))
-
-    -- one that has a key m
-    module _ (m : ℕ) (is : key (getD xs j none) ≡ some m) where
-      pub met-turn : Met key xs j (set n (markOf m) true) (set v j (lowOf m))
-      unfolding every x rest
-      met-turn =
-          record {
-            bound = omega (arith, h .bound);
-            marks = simp length-set (h .marks);
-            lows = simp length-set (h .lows);
-            seen = rw (front, is, marking-self n (h .marks) m)
-                (every-imp (λ y. marked n (key y)) (λ y. marked (set n (markOf m) true) (key y)) (λ y. marking-keeps n (h .marks) m (key y)) rest (h .seen));
-            kept = rw (front, is, drop-set v j (lowOf m) (omega (arith, h .bound, h .lows)), eq-eqb (lowOf m) (lowOf m) refl)
-                (every-imp (λ y. isListed (drop (j + 1) v) (key y)) (λ y. isListed (lowOf m ∷ drop (j + 1) v) (key y)) (λ y. listed-more (lowOf m) (drop (j + 1) v) (key y)) rest (h .kept));
-          }
-
-      -- t: whether it is compared
-      pub new-told : (t : Bool) → t ≡ (getD n (markOf m) false && holds (lowOf m) v)
-          → cond t (every (λ y. not (has (key y) m)) (drop (j + 1) xs)) true ≡ isNew key xs j
-      unfolding isNew
-      new-told t e = rw (is, e) (go (getD n (markOf m) false) refl (holds (lowOf m) v) refl)
-        where
-          go : (a : Bool) → getD n (markOf m) false ≡ a → (b : Bool) → holds (lowOf m) v ≡ b
-              → cond (a && b) (every (λ y. not (has (key y) m)) (drop (j + 1) xs)) true ≡ every (λ y. not (has (key y) m)) (drop (j + 1) xs)
-          go true f true g = refl
-          go true f false g =
-              sym (every-imp (λ y. isListed (drop (j + 1) v) (key y)) (λ y. not (has (key y) m)) (λ y q. unlisted v m g (key y) (listed-drop (j + 1) v (key y) q)) (drop (j + 1) xs) (h .kept))
-          go false f b g = sym (every-imp (λ y. marked n (key y)) (λ y. not (has (key y) m)) (λ y. unmarked n m f (key y)) (drop (j + 1) xs) (h .seen))
-
   -- the slots from j on differ where the first is new and those after it differ
   pub differ-turn : (j : ℕ) → j < length xs → differ key (drop j xs) ≡ (isNew key xs j && differ key (drop (j + 1) xs))
   unfolding apart isNew

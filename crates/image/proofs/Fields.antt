@@ -27,13 +27,13 @@ use Rattle.server.specs.WellFormed.{isBelow, phaseTicket, slotWithin}
 use Rattle.server.specs.declared.Connection.{Connection}
 use Rattle.server.specs.declared.Header.{Header}
 use Rattle.server.specs.declared.Mechanism.{Mechanism}
-use Rattle.image.specs.Sizes.{sessionPhase, sessionName, connectionSession}
+use Rattle.image.specs.Sizes.{phaseSize, sessionPhase, sessionName, connectionSession}
 use Rattle.image.specs.Layout.{profileAt, profile, phaseNumber, phaseSent, phaseWaits, phaseAt, phase, session, connection, mechanism, header}
-use Rattle.image.specs.Private.{headerFits, phaseFits, followsAt, runsAt, nameAt, nameFits, connectionFits}
+use Rattle.image.specs.Private.{headerFits, phaseFits, followsAt, runsAt, nameAt, nameFits, phasedFits, connectionFits}
 use Rattle.image.proofs.Lawful.{any-lawful, phase-lawful}
 use Rattle.image.proofs.Offsets.{phase-size, phase-get, session-get, connection-get, mechanism-get, header-get}
 use Rattle.image.proofs.Parts.{header-below}
-use Rattle.image.proofs.Zeros.{number-zero}
+use Rattle.image.proofs.Zeros.{number-zero, zeros-split}
 
 zero-here : (x : ℕ) → eqb 0 x ≡ eqb x 0
 zero-here zero = refl
@@ -172,15 +172,65 @@ module _ (l : List ℕ) (at : ℕ) where
   octets-canonical : (n : ℕ) → standsAt (putArray octet n (getArray octet n l at)) l at ≡ true
   octets-canonical n = ap (λ (v : List ℕ). standsAt v l at) (octets-put n (getArray octet n l at) (getArray-length octet n l at)) ∙ stands-own l n at
 
-  pub name-signed : (graphic (getD l at 0) && (runsAt l 32 at && runsAt l 32 (at + 31))) ≡ nameFits l true at
+  name-runs : (graphic (getD l at 0) && (runsAt l 32 at && runsAt l 32 (at + 31))) ≡ nameFits l true at
   unfolding nameFits runsAt getArray
-  name-signed =
+  name-runs =
       ap (λ (b : Bool). graphic (getD l at 0) && b) (shared-place (followsAt l) 31 31 at ∙ sym (run-runs l 63 at))
       ∙ padded-run graphic longestName (nameAt l at) refl (getArray-length octet longestName l at) (omega arith)
 
-  pub name-blank : standsAt (replicate longestName 0) l at ≡ nameFits l false at
-  unfolding nameFits
-  name-blank = refl
+  pub name-signed : graphic (getD l at 0) ≡ true → (runsAt l 32 at && runsAt l 32 (at + 31)) ≡ nameFits l true at
+  name-signed e = rw e at name-runs
+
+  pub name-none : graphic (getD l at 0) ≡ false → false ≡ nameFits l true at
+  name-none e = rw e at name-runs
+
+-- ---- a session from its phase on
+
+module _ (l : List ℕ) (at : ℕ) where
+  -- no ticket is eight zeros
+  no-ticket : ltb (getNumber 8 l (at + 2)) 1 ≡ standsAt (replicate 8 0) l (at + 2)
+  unfolding putNumber
+  no-ticket = sym (below-one (getNumber 8 l (at + 2))) ∙ sym (number-zero l 8 (at + 2))
+
+  pub phased-waiting : (b : ℕ) → getD l at 0 ≡ 3
+      → (leb (getD l (at + 1) 0) mostChallenges && (ltb (getNumber 8 l (at + 2)) b && standsAt (replicate longestName 0) l (at + phaseSize))) ≡ phasedFits l b at
+  unfolding phasedFits phaseFits nameFits
+  phased-waiting b e =
+      rw e (sym (and-assoc (leb (getD l (at + 1) 0) mostChallenges) (ltb (getNumber 8 l (at + 2)) b) (standsAt (replicate longestName 0) l (at + phaseSize))))
+
+  pub phased-signed-in : (b : ℕ) → getD l at 0 ≡ 1
+      → (leb (getD l (at + 1) 0) 0 && (standsAt (replicate 8 0) l (at + 2) && nameFits l true (at + phaseSize))) ≡ phasedFits l b at
+  unfolding phasedFits phaseFits
+  phased-signed-in b e =
+      rw (e, no-ticket) (sym (and-assoc (leb (getD l (at + 1) 0) 0) (standsAt (replicate 8 0) l (at + 2)) (nameFits l true (at + phaseSize))))
+
+  pub phased-awaiting : (b : ℕ) → getD l at 0 ≡ 2 → (leb (getD l (at + 1) 0) mostChallenges && standsAt (replicate (8 + longestName) 0) l (at + 2)) ≡ phasedFits l b at
+  unfolding phasedFits phaseFits nameFits
+  phased-awaiting b e =
+      let f : at + 2 + 8 ≡ at + phaseSize = omega arith in
+      rw (e, no-ticket, zeros-split l 8 longestName (at + 2), f)
+      (sym (and-assoc (leb (getD l (at + 1) 0) mostChallenges) (standsAt (replicate 8 0) l (at + 2)) (standsAt (replicate longestName 0) l (at + phaseSize))))
+
+  pub phased-idle : (b : ℕ) → getD l at 0 ≡ 0 → standsAt (replicate (1 + (8 + longestName)) 0) l (at + 1) ≡ phasedFits l b at
+  unfolding phasedFits phaseFits nameFits standsAt
+  phased-idle b e =
+      let f : at + 1 + 1 ≡ at + 2 = omega arith in
+      let g : at + 2 + 8 ≡ at + phaseSize = omega arith in
+      let z : standsAt (replicate 1 0) l (at + 1) ≡ leb (getD l (at + 1) 0) 0 =
+      and-true (eqb 0 (getD l (at + 1) 0)) ∙ zero-here (getD l (at + 1) 0) ∙ at-most-zero (getD l (at + 1) 0) in
+      rw (e, no-ticket, zeros-split l 1 (8 + longestName) (at + 1), z, f, zeros-split l 8 longestName (at + 2), g)
+      (sym (and-assoc (leb (getD l (at + 1) 0) 0) (standsAt (replicate 8 0) l (at + 2)) (standsAt (replicate longestName 0) l (at + phaseSize))))
+
+  pub phased-other : (b : ℕ) → (getD l at 0 ≡ 3 → ⊥) → (getD l at 0 ≡ 1 → ⊥) → (getD l at 0 ≡ 2 → ⊥) → (getD l at 0 ≡ 0 → ⊥) → false ≡ phasedFits l b at
+  unfolding phasedFits phaseFits
+  phased-other b n3 n1 n2 n0 = rw (lt-leb (getD l at 0) 3 (above (getD l at 0) n3 n1 n2 n0))
+    where
+      above : (x : ℕ) → (x ≡ 3 → ⊥) → (x ≡ 1 → ⊥) → (x ≡ 2 → ⊥) → (x ≡ 0 → ⊥) → 3 < x
+      above zero n3 n1 n2 n0 = absurd (n0 refl)
+      above (suc zero) n3 n1 n2 n0 = absurd (n1 refl)
+      above (suc (suc zero)) n3 n1 n2 n0 = absurd (n2 refl)
+      above (suc (suc (suc zero))) n3 n1 n2 n0 = absurd (n3 refl)
+      above (suc (suc (suc (suc x)))) n3 n1 n2 n0 = omega arith
 
 -- ---- a connection
 
@@ -190,6 +240,12 @@ gather n s true false b e w = and-false (n && s)
 gather false s true true b e w = refl
 gather true false true true b e w = sym (and-false b)
 gather true true true true b e w = and-assoc b e w
+
+none-sealed : (n s r : Bool) → s ≡ false → false ≡ ((n && s) && r)
+none-sealed n s r e = rw (e, and-false n)
+
+all-before : (n s f p : Bool) → n ≡ true → s ≡ true → f ≡ true → p ≡ ((n && s) && (f && p))
+all-before n s f p en es ef = rw (en, es, ef)
 
 flags : (p q r s c : Bool) → (p && (q && (r && (s && (c && true))))) ≡ ((p && (q && (r && s))) && c)
 flags true true true s c = rw (and-true c)
@@ -233,23 +289,41 @@ module _ (l : List ℕ) (o : (i : ℕ) → getD l i 0 < 256) (h : Header) (at : 
       standsAt-append (putNumber 8 (getNumber 8 l at)) (session .put (session .get l (at + connectionSession))) l at
       ∙ rw (putNumber-length 8 (getNumber 8 l at), number-self l o 8 at)
 
-  pub connection-fits : ((ltb (getNumber 8 l at) (h .connection) && h .sealed)
-      && ((leb (getD l (at + connectionSession) 0) 1
-      && (leb (getD l (at + connectionSession + 1) 0) 1 && (leb (getD l (at + connectionSession + 2) 0) 1 && leb (getD l (at + connectionSession + 3) 0) 1)))
-      && (phaseFits (getD l (at + connectionSession + sessionPhase) 0) (getD l (at + connectionSession + sessionPhase + 1) 0)
-      (getNumber 8 l (at + connectionSession + sessionPhase + 2)) (h .ticket)
-      && nameFits l (eqb (getD l (at + connectionSession + sessionPhase) 0) 1) (at + connectionSession + sessionName))))
+  abbrev flagged : Bool
+  flagged =
+      leb (getD l (at + connectionSession) 0) 1
+      && (leb (getD l (at + connectionSession + 1) 0) 1 && (leb (getD l (at + connectionSession + 2) 0) 1 && leb (getD l (at + connectionSession + 3) 0) 1))
+
+  connection-fits : ((ltb (getNumber 8 l at) (h .connection) && h .sealed)
+      && (flagged
+      && phasedFits l (h .ticket) (at + connectionSession + sessionPhase)))
       ≡ connectionFits l h at
-  unfolding connectionFits slotWithin
+  unfolding connectionFits slotWithin phasedFits
   connection-fits =
       let s = at + connectionSession in
       let p = s + sessionPhase in
+      let n : p + phaseSize ≡ s + sessionName = omega arith in
       let e : connection .get l at .session .phase ≡ phase .get l p = rw (connection-get, session-get) in
-      rw (connection-canonical, session-canonical l s, e, connection-get l at, name-within l s, ← phase-same l p o (h .ticket))
+      rw (n, connection-canonical, session-canonical l s, e, connection-get l at, name-within l s, ← phase-same l p o (h .ticket))
       (gather (ltb (getNumber 8 l at) (h .connection)) (h .sealed)
       (leb (getD l s 0) 1 && (leb (getD l (s + 1) 0) 1 && (leb (getD l (s + 2) 0) 1 && leb (getD l (s + 3) 0) 1)))
       (canonicalAt phase l p) (isBelow (phaseTicket (phase .get l p)) (h .ticket)) (sentWithin (phase .get l p))
       (nameFits l (eqb (getD l p 0) 1) (s + sessionName)))
+
+  -- the tests one after another
+  pub connection-unsealed : h .sealed ≡ false → false ≡ connectionFits l h at
+  connection-unsealed e = none-sealed (ltb (getNumber 8 l at) (h .connection)) (h .sealed) (flagged && phasedFits l (h .ticket) (at + connectionSession + sessionPhase)) e ∙ connection-fits
+
+  pub connection-late : ltb (getNumber 8 l at) (h .connection) ≡ false → false ≡ connectionFits l h at
+  connection-late e = rw e at connection-fits
+
+  pub connection-unflagged : flagged ≡ false → false ≡ connectionFits l h at
+  connection-unflagged e = rw (e, and-false (ltb (getNumber 8 l at) (h .connection) && h .sealed)) at connection-fits
+
+  pub connection-phased : h .sealed ≡ true → ltb (getNumber 8 l at) (h .connection) ≡ true → flagged ≡ true
+      → phasedFits l (h .ticket) (at + connectionSession + sessionPhase) ≡ connectionFits l h at
+  connection-phased es en ef =
+      all-before (ltb (getNumber 8 l at) (h .connection)) (h .sealed) flagged (phasedFits l (h .ticket) (at + connectionSession + sessionPhase)) en es ef ∙ connection-fits
 
 -- ---- a header, and a mechanism
 

@@ -4,7 +4,7 @@ pub mod Offsets
 pub mod Taken
 pub mod Places
 pub mod Differ
-pub mod Marks
+pub mod Keys
 pub mod Parts
 pub mod Zeros
 pub mod Fields

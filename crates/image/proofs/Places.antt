@@ -1,18 +1,18 @@
 -- The first of a list that passes a test, by its index; and the slots of an image searched where they stand. Assumes nothing.
 use mathlib.Core.Path.{_≡_, refl, sym, ap, _∙_}
-use mathlib.Core.Bool.{Bool, true, false, cond, not, _&&_, and-assoc}
+use mathlib.Core.Bool.{Bool, true, false, cond, not, _&&_, and-assoc, and-false}
 use mathlib.Core.Option.{none, some}
 use mathlib.Core.List.{List, [], _∷_}
-use Prim.Native.Nat.{ℕ, suc, _+_, _<_, _≤_}
+use Prim.Native.Nat.{ℕ, zero, suc, _+_, _<_, _≤_}
 use native.Mathlib.Omega.{arith}
 use native.Mathlib.Numerals.{add-one}
+use native.Mathlib.Decide.{ℕ-discrete}
 use lib.Dec.{eqb}
 use borrow.Author.Tests.{eq-eqb, ne-eqb, eqb-true}
 use lib.ListN.{length, getD, drop, drop-of-length-le}
 use lib.Seq.{drop-cons}
 use Rattle.codec.specs.Codec.{isOne, getNumber}
 use Rattle.codec.proofs.Arrays.{getArray-length, array-place}
-use Rattle.codec.proofs.Every.{every-pass, every-fail, every-done}
 use Rattle.octets.specs.Lists.{every}
 use Rattle.session.specs.Named.{waitsOn}
 use Rattle.server.specs.Limits.{mostConnections}
@@ -140,18 +140,35 @@ module _ (l : List ℕ) (at : ℕ) where
       ∙ ap (λ (b : Bool). isOne (getD l at 0) && b) (sym (waiting-here t))
       ∙ held (isWaiting t) (isOne (getD l at 0)) (connection .get l (at + 1)))
 
--- ---- every slot from an index on, tested where it stands: w is what the whole comes to
+-- ---- every slot from an index on, tested where it stands from the last down
 
-module _ (p : Slot → Bool) (l : List ℕ) (w : Bool) (i : ℕ) (inv : w ≡ every p (drop i (slotsAt l))) where
-  pub every-at-pass : i < mostConnections → p (slot .get l (slotOffset i)) ≡ true → w ≡ every p (drop (i + 1) (slotsAt l))
-  every-at-pass h e =
-      every-pass p w i mostConnections (slotsAt l) (getArray-length slot mostConnections l serverSlots) inv (slot .get l serverSlots) h
-      (ap p (array-place slot slotSize slot-size mostConnections l serverSlots i (slot .get l serverSlots) h) ∙ e)
+module _ (p : Slot → Bool) (l : List ℕ) where
+  pub every-at-start : every p (drop mostConnections (slotsAt l)) ≡ true
+  unfolding every
+  every-at-start = rw (drop-of-length-le (slotsAt l) {i = mostConnections} (omega (arith, getArray-length slot mostConnections l serverSlots)))
 
-  pub every-at-fail : i < mostConnections → p (slot .get l (slotOffset i)) ≡ false → w ≡ false
-  every-at-fail h e =
-      every-fail p w i mostConnections (slotsAt l) (getArray-length slot mostConnections l serverSlots) inv (slot .get l serverSlots) h
-      (ap p (array-place slot slotSize slot-size mostConnections l serverSlots i (slot .get l serverSlots) h) ∙ e)
+  every-at-turn : (i : ℕ) → i < mostConnections → every p (drop i (slotsAt l)) ≡ (p (slot .get l (slotOffset i)) && every p (drop (i + 1) (slotsAt l)))
+  unfolding every
+  every-at-turn i h =
+      rw (
+        drop-cons (slotsAt l) i none (omega (arith, getArray-length slot mostConnections l serverSlots)),
+        array-place slot slotSize slot-size mostConnections l serverSlots i none h,
+        add-one i,
+      )
 
-  pub every-at-end : mostConnections ≤ i → w ≡ true
-  every-at-end h = every-done p w i mostConnections (slotsAt l) (getArray-length slot mostConnections l serverSlots) inv h
+  pub every-at-pass : (i : ℕ) → i < mostConnections → p (slot .get l (slotOffset i)) ≡ true → every p (drop (i + 1) (slotsAt l)) ≡ true → every p (drop i (slotsAt l)) ≡ true
+  every-at-pass i h e f = every-at-turn i h ∙ rw (e, f)
+
+  every-at-back : (i from : ℕ) → from ≤ i → i < mostConnections → every p (drop i (slotsAt l)) ≡ false → false ≡ every p (drop from (slotsAt l))
+  every-at-back zero from g h e = let z : from ≡ 0 = omega arith in sym (rw z e)
+  every-at-back (suc i) from g h e =
+      let s : i + 1 ≡ suc i = omega arith in
+      go (ℕ-discrete from (suc i)) (λ b. every-at-back i from b (omega arith) (every-at-turn i (omega arith) ∙ rw (s, e) (and-false (p (slot .get l (slotOffset i))))))
+    where
+      go : Dec (from ≡ suc i) → (from ≤ i → false ≡ every p (drop from (slotsAt l))) → false ≡ every p (drop from (slotsAt l))
+      go (yes q) r = sym (rw q e)
+      go (no q) r = r (omega (arith, q))
+
+  -- one that fails stands behind every index below
+  pub every-at-fail : (i from : ℕ) → from ≤ i → i < mostConnections → p (slot .get l (slotOffset i)) ≡ false → false ≡ every p (drop from (slotsAt l))
+  every-at-fail i from g h e = every-at-back i from g h (every-at-turn i h ∙ rw e)

@@ -5,12 +5,13 @@ use mathlib.Core.List.{List}
 use Prim.Native.Nat.{ℕ, zero, suc, _+_, _*_}
 use native.Mathlib.Omega.{arith}
 use lib.Dec.{eqb}
-use borrow.Author.Tests.{eqb-true, eq-eqb}
+use borrow.Author.Tests.{eqb-true, eq-eqb, ne-eqb}
 use lib.ListN.{getD, replicate, length-replicate, replicate-append-replicate}
 use Rattle.octets.proofs.Cases.{both}
 use Rattle.codec.specs.Codec.{putNumber, getNumber}
 use Rattle.codec.specs.InPlace.{standsAt}
 use Rattle.codec.proofs.InPlace.{standsAt-append}
+use Rattle.session.specs.Limits.{longestName}
 use Rattle.image.specs.Sizes.{mechanismSize, slotSize}
 
 agree : (a b : Bool) → (a ≡ true → b ≡ true) → (b ≡ true → a ≡ true) → a ≡ b
@@ -35,7 +36,7 @@ module _ (l : List ℕ) where
   zeros n at = standsAt (replicate n 0) l at
 
   -- one piece after another
-  zeros-split : (m n at : ℕ) → zeros (m + n) at ≡ (zeros m at && zeros n (at + m))
+  pub zeros-split : (m n at : ℕ) → zeros (m + n) at ≡ (zeros m at && zeros n (at + m))
   zeros-split m n at =
       ap (λ (v : List ℕ). standsAt v l at) (sym (replicate-append-replicate {A = ℕ} m n 0))
       ∙ standsAt-append (replicate m 0) (replicate n 0) l at
@@ -57,8 +58,42 @@ module _ (l : List ℕ) where
       ∙ sym (zeros-split a (b + c) at))
 
   module _ (at : ℕ) where
-    pub slot-pieces : (zeros 64 at && zeros 32 (at + 55)) ≡ zeros slotSize at
+    slot-pieces : (zeros 64 at && zeros 32 (at + 55)) ≡ zeros slotSize at
     slot-pieces = zeros-shared 55 9 23 at (at + 55) refl
+
+    pub slot-first : zeros 64 at ≡ false → false ≡ zeros slotSize at
+    slot-first e = rw e at slot-pieces
+
+    pub slot-second : zeros 64 at ≡ true → zeros 32 (at + 55) ≡ zeros slotSize at
+    slot-second e = rw e at slot-pieces
+
+    -- 72 zeros and 73, in pieces of 64 and 32
+    awaiting-pieces : (zeros 64 (at + 2) && zeros 32 (at + 42)) ≡ zeros (8 + longestName) (at + 2)
+    awaiting-pieces = zeros-shared 40 24 8 (at + 2) (at + 42) (omega arith)
+
+    pub awaiting-first : zeros 64 (at + 2) ≡ false → false ≡ zeros (8 + longestName) (at + 2)
+    awaiting-first e = rw e at awaiting-pieces
+
+    pub awaiting-second : zeros 64 (at + 2) ≡ true → zeros 32 (at + 42) ≡ zeros (8 + longestName) (at + 2)
+    awaiting-second e = rw e at awaiting-pieces
+
+    idle-pieces : (zeros 64 (at + 1) && zeros 32 (at + 42)) ≡ zeros (1 + (8 + longestName)) (at + 1)
+    idle-pieces = zeros-shared 41 23 9 (at + 1) (at + 42) (omega arith)
+
+    pub idle-first : zeros 64 (at + 1) ≡ false → false ≡ zeros (1 + (8 + longestName)) (at + 1)
+    idle-first e = rw e at idle-pieces
+
+    pub idle-second : zeros 64 (at + 1) ≡ true → zeros 32 (at + 42) ≡ zeros (1 + (8 + longestName)) (at + 1)
+    idle-second e = rw e at idle-pieces
+
+    -- what is no zero is not one of some
+    pub zeros-first : (n : ℕ) → zeros (suc n) at ≡ true → getD l at 0 ≡ 0
+    unfolding standsAt
+    zeros-first n e = sym (eqb-true 0 (getD l at 0) (both (eqb 0 (getD l at 0)) (zeros n (at + 1)) e .0))
+
+    pub zeros-none : (n : ℕ) → (getD l at 0 ≡ 0 → ⊥) → false ≡ zeros (suc n) at
+    unfolding standsAt
+    zeros-none n f = sym (rw (ne-eqb 0 (getD l at 0) (λ e. f (sym e))))
 
     pub mechanism-pieces : (zeros 16 at && zeros 16 (at + 6)) ≡ zeros mechanismSize at
     mechanism-pieces = zeros-shared 6 10 6 at (at + 6) refl

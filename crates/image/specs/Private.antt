@@ -1,13 +1,13 @@
 -- What the functions that test an image part by part come to.
 use mathlib.Core.Path.{_≡_}
 use mathlib.Core.Bool.{Bool, true, false, cond, not, _&&_, _||_}
-use mathlib.Core.List.{List}
+use mathlib.Core.List.{List, [], _∷_}
 use mathlib.Core.Option.{Option, none, some}
-use Prim.Native.Nat.{ℕ, _+_, _-_, _*_, _/_, _%_, _≤_}
+use Prim.Native.Nat.{ℕ, zero, suc, _+_, _-_, _*_, _/_, _%_, _≤_}
 use lib.Dec.{eqb, leb, ltb}
 use lib.ListN.{length, getD, drop, replicate}
-use Rattle.octets.specs.Lists.{every, holds, same, before, paddedTo}
-use Rattle.codec.specs.Codec.{octet, getArray, listed}
+use Rattle.octets.specs.Lists.{every, same, before, paddedTo}
+use Rattle.codec.specs.Codec.{octet, getNumber, getArray, listed}
 use Rattle.codec.specs.InPlace.{standsAt, canonicalAt, everyAt}
 use Rattle.session.specs.Limits.{mostChallenges, longestName}
 use Rattle.session.specs.Verdict.{graphic, isName}
@@ -16,7 +16,7 @@ use Rattle.server.specs.Mechanisms as Mechanisms
 use Rattle.server.specs.Server.{Slot}
 use Rattle.server.specs.WellFormed.{clashes, differ, numberOf, ticketOf, slotWithin, mechanismsWithin, headerWithin}
 use Rattle.server.specs.declared.Header.{Header}
-use Rattle.image.specs.Sizes.{slotSize, serverMechanisms, serverSlots}
+use Rattle.image.specs.Sizes.{phaseSize, sessionPhase, connectionSession, slotSize, serverMechanisms, serverSlots}
 use Rattle.image.specs.Layout.{connection, slot, mechanism, header}
 use Rattle.image.specs.Image.{Image}
 use Rattle.image.specs.InPlace.{slotOffset, tableAt}
@@ -53,6 +53,11 @@ unfoldable pub nameFits : Image → Bool → ℕ → Bool
 nameFits l b at =
     cond b (isName (before 0 (nameAt l at)) && same (nameAt l at) (paddedTo longestName (before 0 (nameAt l at)))) (standsAt (replicate longestName 0) l at)
 
+-- a session from its phase on, of a server with b as its next ticket
+unfoldable pub phasedFits : Image → ℕ → ℕ → Bool
+phasedFits l b at =
+    phaseFits (getD l at 0) (getD l (at + 1) 0) (getNumber 8 l (at + 2)) b && nameFits l (eqb (getD l at 0) 1) (at + phaseSize)
+
 -- the slots, and whether their numbers and tickets differ
 abbrev pub slotsAt : Image → List Slot
 slotsAt l = getArray slot mostConnections l serverSlots
@@ -60,29 +65,50 @@ slotsAt l = getArray slot mostConnections l serverSlots
 abbrev pub slotsDiffer : Image → Bool
 slotsDiffer l = differ numberOf (slotsAt l) && differ ticketOf (slotsAt l)
 
--- 32 bits of a key, and which of 256 marks they have
-unfoldable pub lowOf : ℕ → ℕ
-lowOf m = m % 0x100000000
+-- ---- a hash table of the slots that were met, by a key: a slot's number, or its ticket
 
-unfoldable pub markOf : ℕ → ℕ
-markOf m = (((m % 0x100000000) * 2654435769) / 0x1000000) % 256
+abbrev pub buckets : ℕ
+buckets = 512
 
--- a key's mark is set, its bits are listed
-abbrev pub marked : List Bool → Option ℕ → Bool
-marked n none = true
-marked n (some m) = getD n (markOf m) false
+-- how far behind a slot's start its number stands, and its ticket
+abbrev pub slotNumber : ℕ
+slotNumber = 1
 
-abbrev pub isListed : List ℕ → Option ℕ → Bool
-isListed v none = true
-isListed v (some m) = holds (lowOf m) v
+abbrev pub slotTicket : ℕ
+slotTicket = 1 + connectionSession + sessionPhase + 2
 
--- what is met of the slots from i on: their marks are set, and their bits listed from there on
-pub record Met (key : Slot → Option ℕ) (xs : List Slot) (i : ℕ) (n : List Bool) (v : List ℕ) : Type 0 where
-  pub bound : i ≤ length xs
-  pub marks : length n ≡ 256
-  pub lows : length v ≡ length xs
-  pub seen : every (λ y. marked n (key y)) (drop i xs) ≡ true
-  pub kept : every (λ y. isListed (drop i v) (key y)) (drop i xs) ≡ true
+-- a key's buckets: the first is told by its remainder, the next by the digits, least first, of a number that its quotient is spread to
+unfoldable pub firstBucket : ℕ → ℕ
+firstBucket m = m % 509
+
+unfoldable pub spread : ℕ → ℕ
+spread m = (((m / 509) % 0x100000000) * 2654435769) / 0x800000
+
+unfoldable pub digits : ℕ → ℕ → List ℕ
+digits zero x = []
+digits (suc n) x = cond (eqb x 0) [] (x % buckets ∷ digits n (x / buckets))
+
+abbrev pub bucketsOf : ℕ → List ℕ
+bucketsOf m = firstBucket m ∷ digits (spread m) (spread m)
+
+-- what a bucket has, x, is a slot with this key: a slot's index and 64, and 0 where it is empty
+unfoldable pub isOf : Image → ℕ → ℕ → ℕ → Bool
+isOf l o x m = eqb (getNumber 8 l (slotOffset (x % mostConnections) + o)) m
+
+-- of some buckets the first that is empty, where no one before it has a slot with this key; else 512
+unfoldable pub emptyBucket : Image → ℕ → List ℕ → ℕ → List ℕ → ℕ
+emptyBucket l o n m [] = buckets
+emptyBucket l o n m (k ∷ ks) = cond (eqb (getD n k 0) 0) k (cond (isOf l o (getD n k 0) m) buckets (emptyBucket l o n m ks))
+
+-- a key was met, or all of its buckets are taken; every one from slot i on
+abbrev pub isMet : Image → ℕ → List ℕ → Option ℕ → Bool
+isMet l o n none = true
+isMet l o n (some m) = eqb (emptyBucket l o n m (bucketsOf m)) buckets
+
+pub record Met (key : Slot → Option ℕ) (o : ℕ) (l : Image) (i : ℕ) (n : List ℕ) : Type 0 where
+  pub bound : i ≤ mostConnections
+  pub size : length n ≡ buckets
+  pub met : every (λ y. isMet l o n (key y)) (drop i (slotsAt l)) ≡ true
 
 -- no slot after the one at i has its key
 unfoldable pub isNew : (Slot → Option ℕ) → List Slot → ℕ → Bool

@@ -1,19 +1,20 @@
 // Parts of an image tested where they stand: each field as a number, and nothing is written again. Only the mechanisms are read by value, for
 // the tests of their names.
 ghost use mathlib.Core.Path.{_≡_};
-ghost use mathlib.Core.Bool.{cond, _&&_};
-ghost use Prim.Native.Nat.{_+_, _<_, _≤_};
+ghost use mathlib.Core.Bool.{true, cond, _&&_};
+ghost use Prim.Native.Nat.{_+_, _-_, _*_, _%_, _<_, _≤_};
 ghost use lib.Dec.{eqb, leb, ltb};
-ghost use lib.ListN.{length, replicate};
-ghost use Rattle.codec.specs.Codec.{listed};
+ghost use lib.ListN.{length, getD, replicate};
+ghost use Rattle.codec.specs.Codec.{getNumber, listed};
 ghost use Rattle.codec.specs.InPlace.{standsAt, canonicalAt, everyAt};
 ghost use Rattle.session.specs.Limits.{mostChallenges, longestName};
 ghost use Rattle.session.specs.Verdict.{graphic};
 ghost use Rattle.server.specs.Limits.{mostConnections, mostMechanisms};
 ghost use Rattle.server.specs.WellFormed.{numberOf, ticketOf};
-ghost use Rattle.image.specs.Sizes.{mechanismSize, connectionSize, slotSize, serverMechanisms, serverSlots, imageSize};
+ghost use Rattle.image.specs.Sizes.{phaseSize, sessionPhase, mechanismSize, connectionSize, slotSize, serverMechanisms, serverSlots, imageSize};
 ghost use Rattle.image.specs.Layout.{mechanism};
-ghost use Rattle.image.specs.Private.{headerFits, mechanismsFit, phaseFits, runsAt, nameFits, connectionFits, slotFits, slotsAt, slotsDiffer, Met, joins};
+ghost use Rattle.image.specs.InPlace.{slotOffset};
+ghost use Rattle.image.specs.Private.{headerFits, mechanismsFit, runsAt, nameFits, phasedFits, connectionFits, slotFits, slotsDiffer, slotNumber, slotTicket, Met, joins};
 use crate::leaves::are_zeros;
 use crate::leaves::read_flag;
 use crate::leaves::read_number;
@@ -24,11 +25,19 @@ use crate::sizes::MECHANISM;
 use crate::sizes::MECHANISM_CLIENT_FIRST;
 use crate::sizes::MECHANISM_NEEDS_PROTECTION;
 use crate::sizes::MOST_CONNECTIONS;
+use crate::sizes::NUMBER;
+use crate::sizes::PHASE;
+use crate::sizes::PHASE_SENT;
+use crate::sizes::PHASE_TICKET;
 use crate::sizes::SERVER_MECHANISMS;
 use crate::sizes::SERVER_SLOTS;
-use crate::sizes::SESSION_NAME;
 use crate::sizes::SESSION_PHASE;
 use crate::sizes::SLOT;
+use crate::slots::AWAITING;
+use crate::slots::IDLE;
+use crate::slots::SIGNED_IN;
+use crate::slots::WAITING;
+use crate::unique::BUCKETS;
 use crate::unique::adds_number;
 use crate::unique::adds_ticket;
 use server::Header;
@@ -81,31 +90,7 @@ pub(crate) fn mechanisms_fit(image: &[u8]) -> bool
     mechanisms_stand(image) & table.are_well_formed()
 }
 
-// ---- an open connection
-
-// How many challenges a phase may have sent, and what its ticket is below: 0 is the ticket of a phase that has none.
-fn most_sent(number: u8) -> u8
-    ensures { λ r. ⌜ r ≡ cond (leb number 1) 0 mostChallenges ⌝ }
-{
-    if number <= 1 {
-        0
-    } else {
-        Session::MOST_CHALLENGES
-    }
-}
-
-fn ticket_bound(number: u8, next: u64) -> u64
-    ensures { λ r. ⌜ r ≡ cond (eqb number 3) next 1 ⌝ }
-{
-    if number == 3 { next } else { 1 }
-}
-
-// A phase's octet, the challenges sent and the ticket, of a server with this next ticket.
-fn is_phase(number: u8, sent: u8, ticket: u64, next: u64) -> bool
-    ensures { λ r. ⌜ r ≡ phaseFits number sent ticket next ⌝ }
-{
-    (number <= 3) & ((sent <= most_sent(number)) & (ticket < ticket_bound(number, next)))
-}
+// ---- a name
 
 // An octet of a name.
 fn is_graphic(x: u8) -> bool
@@ -128,15 +113,107 @@ fn runs(image: &[u8], at: usize) -> bool
     ok
 }
 
-// The name of who is signed in, padded with NUL, or zeros. The two runs share an octet.
-fn is_name(image: &[u8], signed: bool, at: usize) -> bool
+// The name of who is signed in, padded with NUL. The two runs share an octet.
+fn is_name(image: &[u8], at: usize) -> bool
     requires { ⌜ at + longestName ≤ length (now image) ⌝ }
-    ensures { λ r. ⌜ r ≡ nameFits (now (image .entry)) signed at ⌝ }
+    ensures { λ r. ⌜ r ≡ nameFits (now (image .entry)) true at ⌝ }
 {
-    if signed {
-        return is_graphic(image[at]) & (runs(image, at) & runs(image, at + 31));
+    if !is_graphic(image[at]) {
+        return false;
     }
-    are_zeros(image, at, Session::LONGEST_NAME)
+    runs(image, at) & runs(image, at + 31)
+}
+
+// ---- an open connection, judged where it stands. at: where its phase stands
+
+// One that waits on a ticket, which is below the next: nobody is signed in.
+fn is_waiting_below(image: &[u8], at: usize, next: u64) -> bool
+    requires { ⌜ at + (phaseSize + longestName) ≤ length (now image) ⌝ }
+    ensures { λ r. ⌜ r ≡ (leb (getD (now (image .entry)) (at + 1) 0) mostChallenges && (ltb (getNumber 8 (now (image .entry)) (at + 2)) next && standsAt (replicate longestName 0) (now (image .entry)) (at + phaseSize))) ⌝ }
+{
+    if Session::MOST_CHALLENGES < image[at + PHASE_SENT] {
+        return false;
+    }
+    if next <= read_number(image, at + PHASE_TICKET) {
+        return false;
+    }
+    are_zeros(image, at + PHASE, Session::LONGEST_NAME)
+}
+
+// One that is signed in: no challenge, no ticket, a name.
+fn is_signed_in(image: &[u8], at: usize) -> bool
+    requires { ⌜ at + (phaseSize + longestName) ≤ length (now image) ⌝ }
+    ensures { λ r. ⌜ r ≡ (leb (getD (now (image .entry)) (at + 1) 0) 0 && (standsAt (replicate 8 0) (now (image .entry)) (at + 2) && nameFits (now (image .entry)) true (at + phaseSize))) ⌝ }
+{
+    if 0 < image[at + PHASE_SENT] {
+        return false;
+    }
+    if !are_zeros(image, at + PHASE_TICKET, NUMBER) {
+        return false;
+    }
+    is_name(image, at + PHASE)
+}
+
+// One that an answer is awaited of: no ticket and no name, in two pieces that share octets.
+fn is_awaiting(image: &[u8], at: usize) -> bool
+    requires { ⌜ at + (phaseSize + longestName) ≤ length (now image) ⌝ }
+    ensures { λ r. ⌜ r ≡ (leb (getD (now (image .entry)) (at + 1) 0) mostChallenges && standsAt (replicate (8 + longestName) 0) (now (image .entry)) (at + 2)) ⌝ }
+{
+    if Session::MOST_CHALLENGES < image[at + PHASE_SENT] {
+        return false;
+    }
+    if !are_zeros(image, at + PHASE_TICKET, 64) {
+        return false;
+    }
+    are_zeros(image, at + 42, 32)
+}
+
+// One that is idle: nothing but zeros, likewise.
+fn is_idle(image: &[u8], at: usize) -> bool
+    requires { ⌜ at + (phaseSize + longestName) ≤ length (now image) ⌝ }
+    ensures { λ r. ⌜ r ≡ standsAt (replicate (1 + (8 + longestName)) 0) (now (image .entry)) (at + 1) ⌝ }
+{
+    if !are_zeros(image, at + PHASE_SENT, 64) {
+        return false;
+    }
+    are_zeros(image, at + 42, 32)
+}
+
+// What a session has from its phase on.
+fn phased_fits(image: &[u8], at: usize, next: u64) -> bool
+    requires { ⌜ at + (phaseSize + longestName) ≤ length (now image) ⌝ }
+    ensures { λ r. ⌜ r ≡ phasedFits (now (image .entry)) next at ⌝ }
+{
+    if image[at] == WAITING {
+        return is_waiting_below(image, at, next);
+    }
+    if image[at] == SIGNED_IN {
+        return is_signed_in(image, at);
+    }
+    if image[at] == AWAITING {
+        return is_awaiting(image, at);
+    }
+    if image[at] == IDLE {
+        return is_idle(image, at);
+    }
+    false
+}
+
+// A profile and three flags: each is 0 or 1.
+fn are_flags(image: &[u8], at: usize) -> bool
+    requires { ⌜ at + sessionPhase ≤ length (now image) ⌝ }
+    ensures { λ r. ⌜ r ≡ (leb (getD (now (image .entry)) at 0) 1 && (leb (getD (now (image .entry)) (at + 1) 0) 1 && (leb (getD (now (image .entry)) (at + 2) 0) 1 && leb (getD (now (image .entry)) (at + 3) 0) 1))) ⌝ }
+{
+    if 1 < image[at] {
+        return false;
+    }
+    if 1 < image[at + 1] {
+        return false;
+    }
+    if 1 < image[at + 2] {
+        return false;
+    }
+    image[at + 3] <= 1
 }
 
 // A connection of a server with this header.
@@ -144,72 +221,93 @@ fn connection_fits(image: &[u8], header: Header, at: usize) -> bool
     requires { ⌜ at + connectionSize ≤ length (now image) ⌝ }
     ensures { λ r. ⌜ r ≡ connectionFits (now (image .entry)) header at ⌝ }
 {
-    let session = at + CONNECTION_SESSION;
-    let phase = session + SESSION_PHASE;
-    let number = read_number(image, at);
-    let ticket = read_number(image, phase + 2);
-    let below = (number < header.connection) & header.sealed;
-    let flags = (image[session] <= 1)
-        & ((image[session + 1] <= 1) & ((image[session + 2] <= 1) & (image[session + 3] <= 1)));
-    let phased = is_phase(image[phase], image[phase + 1], ticket, header.ticket);
-    below & (flags & (phased & is_name(image, image[phase] == 1, session + SESSION_NAME)))
+    if !header.sealed {
+        return false;
+    }
+    if header.connection <= read_number(image, at) {
+        return false;
+    }
+    if !are_flags(image, at + CONNECTION_SESSION) {
+        return false;
+    }
+    phased_fits(
+        image,
+        at + CONNECTION_SESSION + SESSION_PHASE,
+        header.ticket,
+    )
 }
 
 // ---- the slots
+
+// How many slots in a row are told free at once.
+const RUN: usize = 8;
+
+// Whether these slots before index i are free, where it ends a whole run. A slot is taken from the lowest on, so most runs with an open slot show it at once.
+fn are_free(image: &[u8], i: usize) -> bool
+    requires { ⌜ (0 < i) × (i ≤ mostConnections) × (length (now image) ≡ imageSize) ⌝ }
+    ensures { λ r. ⌜ r ≡ (eqb (i % 8) 0 && standsAt (replicate (8 * slotSize) 0) (now (image .entry)) (slotOffset (i - 8))) ⌝ }
+{
+    if i % RUN != 0 {
+        return false;
+    }
+    let at = SERVER_SLOTS + (i - RUN) * SLOT;
+    if image[at] != 0 {
+        return false;
+    }
+    are_zeros(image, at, RUN * SLOT)
+}
 
 // Whether a slot is free, in two pieces that share octets: so the compiler looks at sixteen octets at a time.
 fn is_free(image: &[u8], at: usize) -> bool
     requires { ⌜ at + slotSize ≤ length (now image) ⌝ }
     ensures { λ r. ⌜ r ≡ standsAt (replicate slotSize 0) (now (image .entry)) at ⌝ }
 {
-    are_zeros(image, at, 64) & are_zeros(image, at + 55, 32)
+    if !are_zeros(image, at, 64) {
+        return false;
+    }
+    are_zeros(image, at + 55, 32)
 }
 
-// Whether the slot at index i fits, of a server with this header, and no slot after it has its number or its ticket; what is met of these.
+// Whether the slot at index i fits, of a server with this header, and no slot after it has its number or its ticket; if so, the tables have it too.
 fn slot_joins(
     image: &[u8],
     header: Header,
     i: usize,
-    numbers: &mut [bool; 256],
-    number_lows: &mut [u32; MOST_CONNECTIONS],
-    tickets: &mut [bool; 256],
-    ticket_lows: &mut [u32; MOST_CONNECTIONS],
+    numbers: &mut [u8; BUCKETS],
+    tickets: &mut [u8; BUCKETS],
 ) -> bool
-    requires { ⌜ (i < mostConnections) × (length (now image) ≡ imageSize) × Met numberOf (slotsAt (now image)) (i + 1) (now numbers) (now «number_lows») × Met ticketOf (slotsAt (now image)) (i + 1) (now tickets) (now «ticket_lows») ⌝ }
-    ensures { λ r. ⌜ (r ≡ joins (now (image .entry)) header i) × Met numberOf (slotsAt (now (image .entry))) i (now (numbers .exit)) (now («number_lows» .exit)) × Met ticketOf (slotsAt (now (image .entry))) i (now (tickets .exit)) (now («ticket_lows» .exit)) ⌝ }
+    requires { ⌜ (i < mostConnections) × (length (now image) ≡ imageSize) × Met numberOf slotNumber (now image) (i + 1) (now numbers) × Met ticketOf slotTicket (now image) (i + 1) (now tickets) ⌝ }
+    ensures { λ r. ⌜ (r ≡ joins (now (image .entry)) header i) × (r ≡ true → Met numberOf slotNumber (now (image .entry)) i (now (numbers .exit))) × (r ≡ true → Met ticketOf slotTicket (now (image .entry)) i (now (tickets .exit))) ⌝ }
 {
     let at = SERVER_SLOTS + i * SLOT;
     if !read_flag(image, at) {
         return is_free(image, at);
     }
-    let fits = connection_fits(image, header, at + 1);
-    let number = adds_number(image, i, numbers, number_lows);
-    let ticket = adds_ticket(image, i, tickets, ticket_lows);
-    fits & (number & ticket)
+    if !connection_fits(image, header, at + 1) {
+        return false;
+    }
+    if !adds_number(image, i, numbers) {
+        return false;
+    }
+    adds_ticket(image, i, tickets)
 }
 
 pub(crate) fn slots_fit(image: &[u8], header: Header) -> bool
     requires { ⌜ length (now image) ≡ imageSize ⌝ }
     ensures { λ r. ⌜ r ≡ (everyAt (slotFits (now (image .entry)) header) slotSize mostConnections serverSlots && slotsDiffer (now (image .entry))) ⌝ }
 {
-    let mut numbers = [false; 256];
-    let mut number_lows = [0u32; MOST_CONNECTIONS];
-    let mut tickets = [false; 256];
-    let mut ticket_lows = [0u32; MOST_CONNECTIONS];
-    let mut ok = true;
+    let mut numbers = [0u8; BUCKETS];
+    let mut tickets = [0u8; BUCKETS];
     let mut i = MOST_CONNECTIONS;
     while 0 < i {
-        i -= 1;
-        ok = ok
-            & slot_joins(
-                image,
-                header,
-                i,
-                &mut numbers,
-                &mut number_lows,
-                &mut tickets,
-                &mut ticket_lows,
-            );
+        if are_free(image, i) {
+            i -= RUN;
+        } else {
+            i -= 1;
+            if !slot_joins(image, header, i, &mut numbers, &mut tickets) {
+                return false;
+            }
+        }
     }
-    ok
+    true
 }

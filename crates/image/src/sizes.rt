@@ -8,7 +8,12 @@ pub(crate) const MOST_CONNECTIONS: usize = 64;
 // A connection's number, or a ticket.
 pub(crate) const NUMBER: usize = 8;
 
-pub(crate) const PHASE: usize = 2 + NUMBER;
+// A phase is which one it is, the challenges sent, the ticket.
+pub(crate) const PHASE_SENT: usize = 1;
+
+pub(crate) const PHASE_TICKET: usize = 2;
+
+pub(crate) const PHASE: usize = PHASE_TICKET + NUMBER;
 
 pub(crate) const SESSION_PHASE: usize = 4;
 

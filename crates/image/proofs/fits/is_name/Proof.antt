@@ -1,13 +1,16 @@
+use mathlib.Core.Path.{sym, _∙_}
+use borrow.Author.Tests.{not-true, not-false}
 use borrow.Author.Needs.{needs}
-use Rattle.image.proofs.Fields.{name-signed, name-blank}
+use Rattle.image.proofs.Fields.{name-signed, name-none}
 use Rattle.image.proofs.fits.is_name.Statement.{statement}
 use Rattle.image.proofs.fits.is_name.Tie as tie
 
-returns : tie.Need-returns
-returns c =
-    let c₁ = c .before in
-    let c₂ = c₁ .before in
-    rw (c .runs2 .ensures, c₁ .runs .ensures, c₂ .is-graphic .ensures, c₂ .before .before .if1 .taken) (name-signed _ _)
+returns-2 : tie.Need-returns-2
+returns-2 c =
+    let first = c .before in
+    let at-graphic = first .before in
+    let g = sym (at-graphic .before .is-graphic .ensures) ∙ not-false _ (at-graphic .if1 .left) in
+    rw (c .runs2 .ensures, first .runs .ensures) (name-signed _ _ g)
 
 pub is-name-spec : {M : Type 1} → statement M
 is-name-spec =
@@ -15,9 +18,8 @@ is-name-spec =
     (tie.spec
     (λ c. search needs)
     (λ c κs. search needs)
+    (λ c. name-none _ _ (sym (c .before .is-graphic .ensures) ∙ not-true _ (c .if1 .taken)))
     (λ c κs. search needs)
     (λ c. search needs)
     (λ c κs. search needs)
-    returns
-    (λ c κs. search needs)
-    (λ c. rw (c .are-zeros .ensures, c .before .if1 .left) (name-blank _ _)))
+    returns-2)

@@ -1,31 +1,49 @@
 use mathlib.Core.Path.{sym, _∙_}
+use mathlib.Core.Bool.{true≢false}
 use borrow.Author.Tests.{not-true, not-false}
 use borrow.Author.Needs.{needs}
-use Rattle.image.proofs.Marks.{number-skips, ticket-skips}
-use Rattle.image.proofs.Walk.{free-joins, open-joins}
+use Rattle.image.proofs.Keys.{number-skips, ticket-skips}
+use Rattle.image.proofs.Walk.{free-joins, open-joins, open-misfits, open-repeats}
 use Rattle.image.proofs.fits.slot_joins.Statement.{statement}
 use Rattle.image.proofs.fits.slot_joins.Tie as tie
 
 returns : tie.Need-returns
 returns c =
-    let s = c .before .before .before .before in
-    let a = s .args in
-    let f = sym (c .before .before .read-flag .ensures) ∙ not-true _ (c .before .if1 .taken) in (
-      rw (c .is-free .ensures) (free-joins _ _ (a .i) (s .pre .0) f _ _ (s .pre .2) _ _ (s .pre .3)),
-      number-skips _ (a .i) (s .pre .0) _ _ f (s .pre .2),
-      ticket-skips _ (a .i) (s .pre .0) _ _ f (s .pre .3),
+    let at-flag = c .before in
+    let s = at-flag .before .before .before in
+    let f = sym (at-flag .before .read-flag .ensures) ∙ not-true _ (at-flag .if1 .taken) in (
+      rw (c .is-free .ensures) (free-joins _ _ (s .args .i) (s .pre .0) f _ (s .pre .2) _ (s .pre .3)),
+      λ e. number-skips _ (s .args .i) (s .pre .0) _ f (s .pre .2),
+      λ e. ticket-skips _ (s .args .i) (s .pre .0) _ f (s .pre .3),
     )
 
 returns-2 : tie.Need-returns-2
 returns-2 c =
-    let c₃ = c .before .before .before in
-    let c₆ = c₃ .before .before .before in
-    let s = c₆ .before .before .before .before in
-    let f = sym (c₆ .before .before .read-flag .ensures) ∙ not-false _ (c₆ .before .if1 .left) in (
-      rw (c₆ .connection-fits .ensures, c₃ .adds-number .ensures .0, c .adds-ticket .ensures .0) (open-joins _ _ (s .args .i) (s .pre .0) f),
-      c₃ .adds-number .ensures .1,
-      c .adds-ticket .ensures .1,
-    )
+    let at-flag = c .before .before in
+    let s = at-flag .before .before .before in
+    let f = sym (at-flag .before .read-flag .ensures) ∙ not-false _ (at-flag .if1 .left) in
+    let n = sym (c .before .connection-fits .ensures) ∙ not-true _ (c .if2 .taken) in
+    (open-misfits _ _ (s .args .i) (s .pre .0) f n, λ e. absurd (true≢false (sym e)), λ e. absurd (true≢false (sym e)))
+
+returns-3 : tie.Need-returns-3
+returns-3 c =
+    let at-flag = c .before .before .before .before .before in
+    let s = at-flag .before .before .before in
+    let f = sym (at-flag .before .read-flag .ensures) ∙ not-false _ (at-flag .if1 .left) in
+    let n = sym (c .before .adds-number .ensures .0) ∙ not-true _ (c .if3 .taken) in
+    (open-repeats _ _ (s .args .i) (s .pre .0) f n, λ e. absurd (true≢false (sym e)), λ e. absurd (true≢false (sym e)))
+
+returns-4 : tie.Need-returns-4
+returns-4 c =
+    let at-number = c .before .before in
+    let at-fits = at-number .before .before .before in
+    let at-flag = at-fits .before .before in
+    let s = at-flag .before .before .before in
+    let f = sym (at-flag .before .read-flag .ensures) ∙ not-false _ (at-flag .if1 .left) in
+    let fits = sym (at-fits .before .connection-fits .ensures) ∙ not-false _ (at-fits .if2 .left) in
+    let r = not-false _ (at-number .if3 .left) in
+    let n = at-number .before .adds-number .ensures in
+    (c .adds-ticket .ensures .0 ∙ open-joins _ _ (s .args .i) (s .pre .0) f fits (sym (n .0) ∙ r), λ e. n .1 r, c .adds-ticket .ensures .1)
 
 pub slot-joins-spec : {M : Type 1} → statement M
 slot-joins-spec =
@@ -38,6 +56,8 @@ slot-joins-spec =
     returns
     (λ c. search needs)
     (λ c κs. search needs)
+    returns-2
     (λ c κs. let d = c .before .before .before in (search needs, search needs, sym (d .before .read-flag .ensures) ∙ not-false _ (d .if1 .left), d .before .before .before .pre .2))
+    returns-3
     (λ c κs. let d = c .before .before .before .before .before .before in (search needs, search needs, sym (d .before .read-flag .ensures) ∙ not-false _ (d .if1 .left), d .before .before .before .pre .3))
-    returns-2)
+    returns-4)

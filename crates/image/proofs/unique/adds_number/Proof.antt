@@ -1,18 +1,34 @@
+use mathlib.Core.Path.{sym, _∙_}
+use borrow.Author.Tests.{ltb-true}
 use borrow.Author.Needs.{needs}
-use Rattle.image.proofs.Marks.{lows-counted, number-adds}
+use Rattle.octets.proofs.Cases.{both}
+use Rattle.image.proofs.Differ.{none-empty}
+use Rattle.image.proofs.Keys.{number-taken, number-compared}
 use Rattle.image.proofs.unique.adds_number.Statement.{statement}
 use Rattle.image.proofs.unique.adds_number.Tie as tie
 
 returns : tie.Need-returns
 returns c =
-    let c₁ = c .before in
-    let c₂ = c₁ .before in
-    let c₄ = c₂ .before .before in
-    let c₆ = c₄ .before .before in
-    let s = c₆ .before .before in
-    let e = c₂ .low-of .ensures in
-    number-adds (s .args .image .now) (s .args .i) (s .pre .0) (s .args .marks .now) (s .args .lows .now) (s .pre .2) (s .pre .3) _ _ _ _ _
-    (c₆ .read-number .ensures) (rw (c₄ .marks-number .ensures .0, e) at (c₁ .lists .ensures .0)) (c₄ .marks-number .ensures .1) (rw e at (c₁ .lists .ensures .1)) (c .is-new-number .ensures)
+    let at-find = c .before .before .before in
+    let at-number = at-find .before .before in
+    let s = at-number .before .before in
+    let t = c .before .takes in
+    let b = both _ _ (sym (t .ensures .0) ∙ c .if1 .taken) in
+    let k = number-taken (s .args .image .now) (s .args .i) (s .pre .0) (s .args .table .now) (s .pre .2) (s .pre .3) _ _ (at-number .read-number .ensures) (at-find .find-empty .ensures .0)
+    (ltb-true _ _ (b .0)) in
+    (k .0, λ e. rw (t .ensures .1, c .if1 .taken) (k .1))
+
+returns-2 : tie.Need-returns-2
+returns-2 c =
+    let at-test = c .before in
+    let at-find = at-test .before .before .before in
+    let at-number = at-find .before .before in
+    let s = at-number .before .before in
+    let t = at-test .before .takes in
+    let f = at-find .find-empty .ensures in
+    let k = number-compared (s .args .image .now) (s .args .i) (s .pre .0) (s .args .table .now) (s .pre .2) (s .pre .3) _ _ (at-number .read-number .ensures) (f .0)
+    (none-empty _ _ _ _ _ (f .0) (sym (t .ensures .0) ∙ at-test .if1 .left)) (f .1) in
+    (c .is-new-number .ensures ∙ k .0, λ e. rw (t .ensures .1, at-test .if1 .left) (k .1))
 
 pub adds-number-spec : {M : Type 1} → statement M
 adds-number-spec =
@@ -22,9 +38,9 @@ adds-number-spec =
     (λ c. search needs)
     (λ c. search needs)
     (λ c κs. search needs)
-    (λ c κs. c .before .before .before .pre .3 .marks)
-    (λ c κs. search needs)
-    (λ c κs. (search needs, lows-counted _ _ _ _ _ (c .before .before .before .before .before .before .pre .3)))
+    (λ c κs. (search needs, search needs, c .before .before .before .pre .3 .size))
+    (λ c κs. (search needs, c .before .before .before .before .before .pre .3 .size))
+    returns
     (λ c. search needs)
     (λ c κs. search needs)
-    returns)
+    returns-2)

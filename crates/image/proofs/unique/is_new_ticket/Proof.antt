@@ -1,31 +1,39 @@
 use mathlib.Core.Path.{_≡_, sym, ap, _∙_}
-use mathlib.Core.Bool.{true, cond, not}
-use Prim.Native.Nat.{_-_, _≤_}
+use mathlib.Core.Bool.{true, not}
+use Prim.Native.Nat.{_+_, _-_, _≤_}
+use native.Mathlib.Omega.{arith}
 use lib.ListN.{drop}
-use borrow.Author.Tests.{not-true, not-false}
 use borrow.Author.Needs.{needs}
-use Rattle.image.proofs.Places.{every-at-pass, every-at-fail, every-at-end}
-use Rattle.image.specs.Private.{slotsAt}
 use Rattle.octets.specs.Lists.{every}
 use Rattle.server.specs.Limits.{mostConnections}
 use Rattle.server.specs.Slots.{isWaiting, holding}
+use Rattle.image.specs.Private.{slotsAt}
+use Rattle.image.proofs.Places.{every-at-start, every-at-pass, every-at-fail}
 use Rattle.image.proofs.unique.is_new_ticket.Statement.{statement}
 use Rattle.image.proofs.unique.is_new_ticket.Tie as tie
 
 abbrev Inv-loop : tie.InvT-loop
-Inv-loop image test ticket from i₀ i =
-    (from ≤ i) × (i ≤ mostConnections)
-    × (cond test (every (λ y. not (holding (isWaiting ticket) y)) (drop from (slotsAt image))) true ≡ every (λ y. not (holding (isWaiting ticket) y)) (drop i (slotsAt image)))
+Inv-loop image ticket from i₀ i = (from ≤ i) × (i ≤ mostConnections) × (every (λ y. not (holding (isWaiting ticket) y)) (drop i (slotsAt image)) ≡ true)
 
 abbrev μ-loop : tie.MeasureT-loop
-μ-loop image test ticket from i₀ i = mostConnections - i
+μ-loop image ticket from i₀ i = i
+
+returns : tie.Need-returns Inv-loop μ-loop
+returns c =
+    let at-turn = c .before .before in
+    every-at-fail _ _ (at-turn .before .loop .i - 1) (at-turn .before .before .before .args .from) (omega arith) (omega arith) (ap not (sym (c .before .is-waiting .ensures) ∙ c .if1 .taken))
 
 loop-again : tie.Need-loop-again Inv-loop μ-loop
-loop-again c = (
-  search needs,
-  search needs,
-  every-at-pass _ _ _ _ (c .before .before .before .loop .inv .2) (c .before .before .loop-test .taken) (ap not (sym (c .before .is-waiting .ensures) ∙ c .if2 .left)),
-)
+loop-again c =
+    let l = c .before .before .before .loop in
+    let e : l .i - 1 + 1 ≡ l .i = omega arith in
+    (search needs, search needs, every-at-pass _ _ (l .i - 1) (omega arith) (ap not (sym (c .before .is-waiting .ensures) ∙ c .if1 .left)) (rw e (l .inv .2)))
+
+returns-2 : tie.Need-returns-2 Inv-loop μ-loop
+returns-2 c =
+    let l = c .before .loop in
+    let e : l .i ≡ c .before .before .before .args .from = omega arith in
+    sym (rw e at (l .inv .2))
 
 pub is-new-ticket-spec : {M : Type 1} → statement M
 is-new-ticket-spec =
@@ -33,13 +41,12 @@ is-new-ticket-spec =
     (tie.spec
     Inv-loop
     μ-loop
-    (λ c. rw (not-true (c .before .before .args .test) (c .if1 .taken)))
-    (λ c. (search needs, search needs, rw (not-false (c .before .before .args .test) (c .if1 .left))))
+    (λ c. (search needs, search needs, every-at-start _ _))
+    (λ c. search needs)
     (λ c. search needs)
     (λ c. search needs)
     (λ c κs. search needs)
-    (λ c. sym (every-at-fail _ _ _ _ (c .before .before .before .loop .inv .2) (c .before .before .loop-test .taken) (ap not (sym (c .before .is-waiting .ensures) ∙ c .if2 .taken))))
-    (λ c. search needs)
+    returns
     (λ c. search needs)
     loop-again
-    (λ c. sym (every-at-end _ _ _ _ (c .before .loop .inv .2) (c .loop-test .left))))
+    returns-2)
