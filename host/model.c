@@ -8,25 +8,63 @@
 /* "An exchange sends at most 16 challenges" */
 enum { MOST_CHALLENGES = 16 };
 
-/* As many as are compared at most: eight mechanisms. */
-static const uint8_t zeros[UMBRELNIC_MOST_MECHANISMS * MECHANISM_OCTETS];
-
-static bool all_zero(const uint8_t *octets, size_t count) {
-    return memcmp(octets, zeros, count) == 0;
-}
-
 /* --- which images are taken --- */
 
-/* A name and its padding: as many octets of its kind as there are, at least one, and zeros. */
-static bool mechanism_taken(const uint8_t *mechanism) {
-    size_t size = model_mechanism_octets(mechanism, UMBRELNIC_LONGEST_MECHANISM);
-    return size >= 1 && all_zero(mechanism + size, UMBRELNIC_LONGEST_MECHANISM - size) && mechanism[CLIENT_FIRST] <= 1 &&
-           mechanism[NEEDS_PROTECTION] <= 1;
+/* Octets are tested where they stand, many at a time: wide loads joined by "or", and loops of 16 turns without a branch, of which a
+   compiler makes vectors. Where a length is no multiple of what is looked at, some octets are looked at twice. */
+
+/* 0 where all of eight octets, or of 32, are 0. */
+static inline uint64_t any_of_8(const uint8_t *octets) {
+    uint64_t all;
+    memcpy(&all, octets, sizeof all);
+    return all;
 }
 
-static bool name_taken(const uint8_t *name) {
-    size_t size = model_name_octets(name, UMBRELNIC_LONGEST_NAME);
-    return size >= 1 && all_zero(name + size, UMBRELNIC_LONGEST_NAME - size);
+static inline uint64_t any_of_32(const uint8_t *octets) {
+    return any_of_8(octets) | any_of_8(octets + 8) | any_of_8(octets + 16) | any_of_8(octets + 24);
+}
+
+/* "A free slot is 87 zeros": three times 32, of which the last two share nine. */
+static inline bool is_free(const uint8_t *slot) {
+    return (any_of_32(slot) | any_of_32(slot + 32) | any_of_32(slot + SLOT_OCTETS - 32)) == 0;
+}
+
+static inline bool no_name(const uint8_t *name) {
+    return (any_of_32(name) | any_of_32(name + 32)) == 0;
+}
+
+/* A name and its padding: as many octets of its kind as there are, at least one, and zeros. So an octet that is not of the kind is
+   a zero, and so is the octet after it; this is 0 where that holds. The last octet, with none after it, is looked at alone. */
+static inline uint8_t wrong_in_name(const uint8_t *octet) {
+    uint8_t both = octet[0] | octet[1];
+    return model_is_graphic(octet[0]) ? 0 : both;
+}
+
+static inline uint8_t wrong_in_mechanism(const uint8_t *octet) {
+    uint8_t both = octet[0] | octet[1];
+    return model_is_mechanism_octet(octet[0]) ? 0 : both;
+}
+
+/* Four times 16 octets, of which the last two share one. */
+static inline bool name_taken(const uint8_t *name) {
+    uint8_t wrong[16];
+    uint8_t last = name[UMBRELNIC_LONGEST_NAME - 1];
+    for (size_t i = 0; i < sizeof wrong; i++) {
+        wrong[i] = wrong_in_name(name + i) | wrong_in_name(name + 16 + i) | wrong_in_name(name + 32 + i) |
+                   wrong_in_name(name + 47 + i);
+    }
+    return (any_of_8(wrong) | any_of_8(wrong + 8)) == 0 && name[0] != 0 && (last == 0 || model_is_graphic(last));
+}
+
+/* Twice 16 octets, which share 13. */
+static inline bool mechanism_taken(const uint8_t *mechanism) {
+    uint8_t wrong[16];
+    uint8_t last = mechanism[UMBRELNIC_LONGEST_MECHANISM - 1];
+    for (size_t i = 0; i < sizeof wrong; i++) {
+        wrong[i] = wrong_in_mechanism(mechanism + i) | wrong_in_mechanism(mechanism + 3 + i);
+    }
+    return (any_of_8(wrong) | any_of_8(wrong + 8)) == 0 && mechanism[0] != 0 && (last == 0 || model_is_mechanism_octet(last)) &&
+           (mechanism[CLIENT_FIRST] | mechanism[NEEDS_PROTECTION]) <= 1;
 }
 
 static const uint8_t *find_mechanism(const uint8_t *image, size_t count, const uint8_t *padded) {
@@ -40,6 +78,7 @@ static const uint8_t *find_mechanism(const uint8_t *image, size_t count, const u
 }
 
 static bool mechanisms_taken(const uint8_t *image) {
+    static const uint8_t none[UMBRELNIC_MOST_MECHANISMS * MECHANISM_OCTETS];
     size_t count = image[MECHANISM_COUNT];
     if (count > UMBRELNIC_MOST_MECHANISMS) {
         return false;
@@ -50,59 +89,99 @@ static bool mechanisms_taken(const uint8_t *image) {
             return false;
         }
     }
-    return all_zero(image + MECHANISMS + count * MECHANISM_OCTETS, (UMBRELNIC_MOST_MECHANISMS - count) * MECHANISM_OCTETS);
+    return memcmp(image + MECHANISMS + count * MECHANISM_OCTETS, none, (UMBRELNIC_MOST_MECHANISMS - count) * MECHANISM_OCTETS) == 0;
 }
 
-/* The numbers, or tickets, of the slots before. */
-struct numbers {
-    uint64_t limit; /* the next one */
-    uint64_t numbers[UMBRELNIC_MOST_CONNECTIONS];
-    size_t count;
+/* --- "numbers differ" --- */
+
+static inline const uint8_t *slot_at(const uint8_t *image, size_t index) {
+    return image + SLOTS + index * SLOT_OCTETS;
+}
+
+/* The slots met so far that have a connection's number, and those that have a ticket, each in a hash table of 512 places. A place is
+   EMPTY or has a slot's index and IN_SLOT. A number may stand in four places: digits of nine bits of its product with 2^32 divided by
+   the golden ratio, which spreads numbers in turn. Its slot stands in the first of them that was empty, or in none where none was. No
+   place is ever emptied, so an equal number that comes later meets that slot, or again finds all four taken by others. */
+enum { PLACES = 512, DIGIT_BITS = 9, DIGITS = 4, LOWEST_BIT = 23, EMPTY = 0, IN_SLOT = 64 };
+
+struct met {
+    uint8_t numbers[PLACES];
+    uint8_t tickets[PLACES];
 };
 
-/* "numbers differ and are below the next" */
-static bool add_number(struct numbers *numbers, uint64_t number) {
-    if (number >= numbers->limit) {
-        return false;
+/* The first of a number's places that is empty or has its slot; NULL where other slots have all four. */
+static inline uint8_t *place_of(const uint8_t *image, size_t field, uint64_t number, uint8_t places[PLACES]) {
+    uint64_t digits = (number & UINT32_MAX) * 2654435769 >> LOWEST_BIT;
+    for (int i = 0; i < DIGITS; i++) {
+        uint8_t *place = &places[digits % PLACES];
+        if (*place == EMPTY || get_number(slot_at(image, *place - IN_SLOT) + field) == number) {
+            return place;
+        }
+        digits >>= DIGIT_BITS;
     }
-    for (size_t i = 0; i < numbers->count; i++) {
-        if (numbers->numbers[i] == number) {
-            return false;
+    return NULL;
+}
+
+/* Where all four places are taken by others, the slots before are looked through. */
+static bool stands_before(const uint8_t *image, size_t index, size_t field, uint64_t number) {
+    for (size_t i = 0; i < index; i++) {
+        const uint8_t *slot = slot_at(image, i);
+        bool has_one = field == NUMBER ? slot[IS_OPEN] == 1 : slot[PHASE] == WAITING;
+        if (has_one && get_number(slot + field) == number) {
+            return true;
         }
     }
-    numbers->numbers[numbers->count++] = number;
+    return false;
+}
+
+/* Whether no slot before has the number of this one in a field, NUMBER or TICKET. */
+static inline bool is_new(const uint8_t *image, size_t index, size_t field, uint8_t places[PLACES]) {
+    uint64_t number = get_number(slot_at(image, index) + field);
+    uint8_t *place = place_of(image, field, number, places);
+    if (place == NULL) {
+        return !stands_before(image, index, field, number);
+    }
+    if (*place != EMPTY) {
+        return false;
+    }
+    *place = (uint8_t)(index + IN_SLOT);
     return true;
 }
 
-/* What belongs to one phase is zero in the others. */
-static bool phase_taken(const uint8_t *slot, struct numbers *tickets) {
-    uint8_t phase = slot[PHASE];
-    if (phase > WAITING || slot[SENT] > (phase >= AWAITING ? MOST_CHALLENGES : 0)) {
+/* --- slots --- */
+
+/* What belongs to one phase is zero in the others; "waiting tickets likewise". */
+static inline bool phase_taken(const uint8_t *image, size_t index, struct met *met) {
+    const uint8_t *slot = slot_at(image, index);
+    uint64_t ticket = get_number(slot + TICKET);
+    switch (slot[PHASE]) {
+    case IDLE:
+        return slot[SENT] == 0 && ticket == 0 && no_name(slot + NAME);
+    case SIGNED_IN:
+        return slot[SENT] == 0 && ticket == 0 && name_taken(slot + NAME);
+    case AWAITING:
+        return slot[SENT] <= MOST_CHALLENGES && ticket == 0 && no_name(slot + NAME);
+    case WAITING:
+        return slot[SENT] <= MOST_CHALLENGES && no_name(slot + NAME) && ticket < get_number(image + NEXT_TICKET) &&
+               is_new(image, index, TICKET, met->tickets);
+    default:
         return false;
     }
-    if (phase == WAITING ? !add_number(tickets, get_number(slot + TICKET)) : get_number(slot + TICKET) != 0) {
-        return false;
-    }
-    return phase == SIGNED_IN ? name_taken(slot + NAME) : all_zero(slot + NAME, UMBRELNIC_LONGEST_NAME);
 }
 
-static bool slot_taken(const uint8_t *slot, bool sealed, struct numbers *connections, struct numbers *tickets) {
-    if (slot[IS_OPEN] == 0) {
-        return all_zero(slot, SLOT_OCTETS);
-    }
-    return slot[IS_OPEN] == 1 && sealed && slot[PROFILE] <= 1 && slot[PROTECTED] <= 1 && slot[GREETED] <= 1 &&
-           slot[TRANSACTION] <= 1 && add_number(connections, get_number(slot + NUMBER)) && phase_taken(slot, tickets);
+/* "numbers differ and are below the next"; "adding has ended if a connection is open" */
+static inline bool open_slot_taken(const uint8_t *image, size_t index, struct met *met) {
+    const uint8_t *slot = slot_at(image, index);
+    return image[SEALED] == 1 && (slot[PROFILE] | slot[PROTECTED] | slot[GREETED] | slot[TRANSACTION]) <= 1 &&
+           get_number(slot + NUMBER) < get_number(image + NEXT_CONNECTION) && is_new(image, index, NUMBER, met->numbers) &&
+           phase_taken(image, index, met);
 }
 
 static bool slots_taken(const uint8_t *image) {
-    struct numbers connections;
-    struct numbers tickets;
-    connections.limit = get_number(image + NEXT_CONNECTION);
-    connections.count = 0;
-    tickets.limit = get_number(image + NEXT_TICKET);
-    tickets.count = 0;
+    struct met met;
+    memset(&met, EMPTY, sizeof met);
     for (size_t i = 0; i < UMBRELNIC_MOST_CONNECTIONS; i++) {
-        if (!slot_taken(image + SLOTS + i * SLOT_OCTETS, image[SEALED] == 1, &connections, &tickets)) {
+        if (slot_at(image, i)[IS_OPEN] == 1 ? !open_slot_taken(image, i, &met) : !is_free(slot_at(image, i))) {
             return false;
         }
     }
@@ -113,7 +192,7 @@ static bool taken(const uint8_t *image, size_t octets) {
     return octets == UMBRELNIC_IMAGE_OCTETS && image[SEALED] <= 1 && mechanisms_taken(image) && slots_taken(image);
 }
 
-/* --- slots --- */
+/* --- where a connection is --- */
 
 /* The offset of a slot, or NO_SLOT. */
 #define NO_SLOT 0

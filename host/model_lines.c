@@ -115,13 +115,9 @@ static uint8_t capital(uint8_t octet) {
     return 'a' <= octet && octet <= 'z' ? octet - 'a' + 'A' : octet;
 }
 
-static bool is_graphic(uint8_t octet) {
-    return 0x21 <= octet && octet <= 0x7e;
-}
-
 size_t model_name_octets(const uint8_t *octets, size_t size) {
     size_t count = 0;
-    while (count < size && is_graphic(octets[count])) {
+    while (count < size && model_is_graphic(octets[count])) {
         count++;
     }
     return count;
@@ -171,20 +167,12 @@ enum model_verb model_verb(const uint8_t *line, size_t size) {
 
 enum { LONGEST_MECHANISM = 20 };
 
-static bool is_mechanism_octet(uint8_t octet) {
-    return is_capital(octet) || is_digit(octet) || octet == '-' || octet == '_';
-}
-
-size_t model_mechanism_octets(const uint8_t *octets, size_t size) {
+bool model_is_mechanism(const uint8_t *name, size_t size) {
     size_t count = 0;
-    while (count < size && is_mechanism_octet(octets[count])) {
+    while (count < size && model_is_mechanism_octet(name[count])) {
         count++;
     }
-    return count;
-}
-
-bool model_is_mechanism(const uint8_t *name, size_t size) {
-    return 1 <= size && size <= LONGEST_MECHANISM && model_mechanism_octets(name, size) == size;
+    return 1 <= size && size <= LONGEST_MECHANISM && count == size;
 }
 
 static size_t to_space(const uint8_t *line, size_t size, size_t from) {
@@ -236,7 +224,7 @@ static int hex(uint8_t octet) {
 static size_t xtext_octet(const uint8_t *text, size_t size, size_t at, uint8_t *octet) {
     if (text[at] != '+') {
         *octet = text[at];
-        return is_graphic(text[at]) && text[at] != '=' ? 1 : 0;
+        return model_is_graphic(text[at]) && text[at] != '=' ? 1 : 0;
     }
     if (size - at < 3 || hex(text[at + 1]) < 0 || hex(text[at + 2]) < 0) {
         return 0;
@@ -297,7 +285,7 @@ static size_t keyword_end(const uint8_t *line, size_t size, size_t at) {
 
 /* Where a value ends: "one or more octets of 21-7E other than "="". */
 static size_t value_end(const uint8_t *line, size_t size, size_t at) {
-    while (at < size && is_graphic(line[at]) && line[at] != '=') {
+    while (at < size && model_is_graphic(line[at]) && line[at] != '=') {
         at++;
     }
     return at;

@@ -22,10 +22,20 @@ enum model_verb model_verb(const uint8_t *line, size_t size);
 /* NUL, CR and LF are forbidden in every command. */
 bool model_has_forbidden(const uint8_t *line, size_t size);
 
+/* What may stand in a name that a connection signs in with. */
+static inline bool model_is_graphic(uint8_t octet) {
+    return 0x21 <= octet && octet <= 0x7e;
+}
+
+/* What may stand in a mechanism's name; a sum of yes and no, of which a compiler makes vectors. */
+static inline bool model_is_mechanism_octet(uint8_t octet) {
+    uint8_t kinds = ('A' <= octet && octet <= 'Z') + ('0' <= octet && octet <= '9') + (octet == '-') + (octet == '_');
+    return kinds != 0;
+}
+
 bool model_is_mechanism(const uint8_t *name, size_t size);
 
-/* How many octets at the start may stand in a mechanism's name, and in one that a connection signs in with. */
-size_t model_mechanism_octets(const uint8_t *octets, size_t size);
+/* How many octets at the start may stand in a name that a connection signs in with. */
 size_t model_name_octets(const uint8_t *octets, size_t size);
 
 /* A line whose verb is AUTH. The base64 of an initial response is empty for "=". */
