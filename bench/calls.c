@@ -1,7 +1,8 @@
 /* The calls of the library beside the model in host/: a whole sign-in (open, EHLO, AUTH with an initial response, success, MAIL,
    close), every call by itself, and the longest answer and challenge, on images with some connections open. A length is how many
    these are, the one that the calls are for included. Of the others half wait on a ticket, and half are signed in with names of 40
-   octets. Compiled with -DON_MODEL the model stands in both places. */
+   octets. Then a whole sign-in with 64 connections whose numbers and tickets are those that a hash has most trouble with, and with
+   63 that all wait. Compiled with -DON_MODEL the model stands in both places. */
 #include "../host/face.h"
 #include "../host/layout.h"
 #include "harness.h"
@@ -212,6 +213,13 @@ static size_t put_text(const struct run *run, int step, uint8_t *text) {
     return run->text_octets;
 }
 
+static size_t put_input(const struct run *run, int first, int last, uint8_t *in) {
+    memcpy(in, run->out, UMBRELNIC_IMAGE_OCTETS);
+    in[FIRST] = (uint8_t)first;
+    in[LAST] = (uint8_t)last;
+    return TEXT + put_text(run, first, in + TEXT);
+}
+
 static size_t make_input(size_t connections, size_t which, uint8_t *in) {
     static uint8_t out[40000];
     const struct choice *choice = &choices[which];
@@ -229,10 +237,124 @@ static size_t make_input(size_t connections, size_t which, uint8_t *in) {
     if (choice->first == ANSWER) {
         SEND(&run, "AUTH PLAIN");
     }
-    memcpy(in, out, UMBRELNIC_IMAGE_OCTETS);
-    in[FIRST] = (uint8_t)choice->first;
-    in[LAST] = (uint8_t)choice->last;
-    return TEXT + put_text(&run, choice->first, in + TEXT);
+    return put_input(&run, choice->first, choice->last, in);
+}
+
+/* --- the worst patterns --- */
+
+/* Numbers and tickets are told apart by a hash, so which connections stay and which tickets wait might decide what a call takes.
+   The numbers that stay, and the tickets that wait: */
+static bool any_number(uint64_t number) {
+    (void)number;
+    return true;
+}
+
+static bool every_64th(uint64_t number) {
+    return number % 64 == 0;
+}
+
+static bool every_256th(uint64_t number) {
+    return number % 256 == 0;
+}
+
+/* those that the hash of the image's test (host/model.c) puts first into one place of its 512 */
+static bool of_one_digit(uint64_t number) {
+    return ((number & UINT32_MAX) * 2654435769 >> 23) % 512 == 0;
+}
+
+enum pattern { USUAL, EVERY_64TH, EVERY_256TH, ONE_DIGIT, PATTERNS };
+
+static const struct {
+    bool (*number)(uint64_t number);
+    bool (*ticket)(uint64_t number);
+} fits[PATTERNS] = {
+    [USUAL] = {any_number, any_number},
+    [EVERY_64TH] = {every_64th, any_number},
+    [EVERY_256TH] = {every_256th, every_256th},
+    [ONE_DIGIT] = {of_one_digit, of_one_digit},
+};
+
+static bool next_ticket_fits(const struct run *run, enum pattern pattern) {
+    return fits[pattern].ticket(get_number(run->out + NEXT_TICKET));
+}
+
+static bool next_number_fits(const struct run *run, enum pattern pattern) {
+    return fits[pattern].number(get_number(run->out + NEXT_CONNECTION));
+}
+
+/* Clients come and go, one at a time, until the next ticket and the next number fit: one that asks and is rejected, again and again,
+   then some that only open and close. */
+static void let_pass(struct run *run, enum pattern pattern) {
+    if (!next_ticket_fits(run, pattern)) {
+        bring_to(run, AUTHENTICATE);
+        while (!next_ticket_fits(run, pattern)) {
+            SEND(run, "AUTH CRAM-MD5");
+            give_verdict(run, UMBRELNIC_REJECTED, NULL, 0);
+        }
+        take(run, CLOSE);
+    }
+    while (!next_number_fits(run, pattern)) {
+        take(run, OPEN);
+        take(run, CLOSE);
+    }
+}
+
+enum { OTHERS = UMBRELNIC_MOST_CONNECTIONS - 1 };
+
+/* 63 connections that all wait on a ticket; the next number and the next ticket fit as theirs do. The longest takes some 130,000
+   calls, so each is made once. */
+static const uint8_t *all_waiting(struct run *run, enum pattern pattern) {
+    static uint8_t made[PATTERNS][UMBRELNIC_IMAGE_OCTETS];
+    static bool is_made[PATTERNS];
+    if (!is_made[pattern]) {
+        model.make(run->out, UMBRELNIC_IMAGE_OCTETS, 1, 1);
+        add_mechanisms(run->out, two, COUNT(two));
+        for (size_t i = 0; i < OTHERS; i++) {
+            let_pass(run, pattern);
+            bring_to(run, SUCCEED);
+        }
+        let_pass(run, pattern);
+        memcpy(made[pattern], run->out, UMBRELNIC_IMAGE_OCTETS);
+        is_made[pattern] = true;
+    }
+    return made[pattern];
+}
+
+static const uint8_t *slot_at(const uint8_t *image, size_t index) {
+    return image + SLOTS + index * SLOT_OCTETS;
+}
+
+/* Every second of those that wait gets its success, so that they are as in the other inputs. */
+static void sign_half_in(struct run *run) {
+    for (size_t i = 1; i < OTHERS; i += 2) {
+        run->ticket = get_number(slot_at(run->out, i) + TICKET);
+        take(run, SUCCEED);
+    }
+}
+
+static const struct mix {
+    enum pattern pattern;
+    bool all_wait;
+} mixes[] = {
+    {EVERY_64TH, false},
+    {EVERY_256TH, false},
+    {ONE_DIGIT, false},
+    {USUAL, true},
+    {ONE_DIGIT, true},
+};
+
+/* A whole sign-in, whose connection is the 64th. */
+static size_t make_pattern(size_t connections, size_t which, uint8_t *in) {
+    static uint8_t out[40000];
+    struct run run = {&model, out, (const uint8_t *)by_two, strlen(by_two), 0, 0, 0};
+    if (connections != UMBRELNIC_MOST_CONNECTIONS) {
+        return NO_INPUT;
+    }
+    memcpy(out, all_waiting(&run, mixes[which].pattern), UMBRELNIC_IMAGE_OCTETS);
+    if (!mixes[which].all_wait) {
+        sign_half_in(&run);
+    }
+    return put_input(&run, OPEN, CLOSE, in);
 }
 
 static const struct table tables[] = {
@@ -251,6 +373,11 @@ static const struct table tables[] = {
     {"one call", "none: the copy", rows, COUNT(rows), make_input, 15},
     {"longest", "answer", rows, COUNT(rows), make_input, 13},
     {"longest", "challenge", rows, COUNT(rows), make_input, 14},
+    {"patterns", "every 64th", rows, COUNT(rows), make_pattern, 0},
+    {"patterns", "every 256th", rows, COUNT(rows), make_pattern, 1},
+    {"patterns", "one digit", rows, COUNT(rows), make_pattern, 2},
+    {"all waiting", "usual", rows, COUNT(rows), make_pattern, 3},
+    {"all waiting", "one digit", rows, COUNT(rows), make_pattern, 4},
 };
 
 /* A server is made once, so this call is compared but not measured. */
@@ -331,11 +458,38 @@ static void compare_table(const struct table *table) {
     measure_stack(table);
 }
 
+/* Whether an input has its pattern: 63 open connections, the usual half or all of them waiting, whose numbers and tickets fit. */
+static bool has_pattern(const uint8_t *image, const struct mix *mix) {
+    size_t open = 0;
+    size_t waiting = 0;
+    bool all_fit = true;
+    for (size_t i = 0; i < UMBRELNIC_MOST_CONNECTIONS; i++) {
+        const uint8_t *slot = slot_at(image, i);
+        bool is_open = slot[IS_OPEN] == 1;
+        bool waits = slot[PHASE] == WAITING;
+        open += is_open;
+        waiting += waits;
+        all_fit = all_fit && (!is_open || fits[mix->pattern].number(get_number(slot + NUMBER))) &&
+                  (!waits || fits[mix->pattern].ticket(get_number(slot + TICKET)));
+    }
+    return open == OTHERS && waiting == (mix->all_wait ? OTHERS : (OTHERS + 1) / 2) && all_fit;
+}
+
+static void check_patterns(void) {
+    for (size_t which = 0; which < COUNT(mixes); which++) {
+        make_pattern(UMBRELNIC_MOST_CONNECTIONS, which, input);
+        if (!has_pattern(input, &mixes[which]) && differs()) {
+            printf("NO PATTERN in the input %zu of the patterns\n", which);
+        }
+    }
+}
+
 static void compare(void) {
     for (size_t t = 0; t < COUNT(tables); t++) {
         compare_table(&tables[t]);
     }
     compare_table(&make_alone);
+    check_patterns();
 }
 
 static const size_t lengths[] = {1, 8, 64};

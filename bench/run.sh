@@ -5,7 +5,10 @@
 #   bench/run.sh check    only compares the answers and buffers with those of plain C
 #   bench/run.sh limit    compares, and counts instructions: fails where the proved one takes more than
 #                         LIMIT (1.15), of lines LIMIT_LINES (2.7), of plain C's at 64 letters or octets or more,
-#                         and of calls LIMIT_CALLS (2.0) at every number of connections
+#                         and of calls LIMIT_CALLS (1.25) at every number of connections; of calls also where a sign-in
+#                         with 2 mechanisms takes more than LIMIT_SIGN_IN (20000 24000 55000) instructions with 1, 8 and
+#                         64 connections, or one on the worst patterns of numbers and tickets more than LIMIT_PATTERNS
+#                         (1.3) of the usual one with as many waiting, the copy of the image left out in both
 # FORMS (all) says which of base64, xtext, lines and calls are measured. ROUNDS (60) is the number of rounds that a time is the median
 # of. Needs rt and gcc; what else is missing is said and left out.
 set -eu
@@ -88,7 +91,7 @@ unit_of() {
 limit_of() {
     case $1 in
     lines) echo "${LIMIT_LINES:-2.7}" ;;
-    calls) echo "${LIMIT_CALLS:-2.0}" ;;
+    calls) echo "${LIMIT_CALLS:-1.25}" ;;
     *) echo "${LIMIT:-1.15}" ;;
     esac
 }
@@ -115,11 +118,12 @@ count() {
         cat "$out/dumps/log" >&2
         exit 1
     fi
-    # dumps are numbered from 1 on; the last one, of the program's end, has no label
+    # dumps are numbered from 1 on; the last one, of the program's end, has no label. A dump's summary is what was counted since
+    # the counters were cleared; its totals have some of what came before, as the making of an input
     for dump in $(ls "$out/dumps" | grep '^out\.' | sort -t. -k2 -n); do
         awk '
             /^desc: Trigger:/ { split($0, label, "@") }
-            /^(totals|summary):/ { total = $2 }
+            /^summary:/ { total = $2 }
             END { if (label[2] != "") printf "%s\t%s\t%s\t%s\t%d\n", label[2], label[3], label[4], label[5], total / label[6] }
         ' "$out/dumps/$dump"
     done | awk -F'\t' '
@@ -135,14 +139,14 @@ count() {
 
 # a table for each function: a row for each kind and contender, a column for each length
 print_tables() {
-    awk -F'\t' -v form="$1" -v unit="$2" -v length_unit="$(unit_of "$1")" '
+    awk -F'\t' -v form="$1" -v unit="$2" -v connectionsunit="$(unit_of "$1")" '
         function cells(name, key, field,    j, s) {
             s = ""
-            for (j = 1; j <= lengths[name]; j++) s = s sprintf(" %9s |", field[key, length_at[name, j]])
+            for (j = 1; j <= lengths[name]; j++) s = s sprintf(" %9s |", field[key, connectionsat[name, j]])
             return s
         }
         !($1 in known_function) { known_function[$1]; function_at[++functions] = $1 }
-        !(($1, $3) in known_length) { known_length[$1, $3]; length_at[$1, ++lengths[$1]] = $3 }
+        !(($1, $3) in known_length) { known_length[$1, $3]; connectionsat[$1, ++lengths[$1]] = $3 }
         {
             key = $1 FS $2 FS $4
             if (!(key in known_key)) { known_key[key]; key_at[++keys] = key }
@@ -152,8 +156,8 @@ print_tables() {
         END {
             for (k = 1; k <= functions; k++) {
                 name = function_at[k]
-                printf "\n| %-15s | %-21s |", form " " name, length_unit ":"
-                for (j = 1; j <= lengths[name]; j++) printf " %9s |", length_at[name, j]
+                printf "\n| %-15s | %-21s |", form " " name, connectionsunit ":"
+                for (j = 1; j <= lengths[name]; j++) printf " %9s |", connectionsat[name, j]
                 printf "\n|%s|%s|", "---", "---"
                 for (j = 1; j <= lengths[name]; j++) printf "---:|"
                 printf "\n"
@@ -169,18 +173,65 @@ print_tables() {
 
 # fails where the proved one takes too many instructions
 judge() {
-    awk -F'\t' -v form="$1" -v limit="$(limit_of "$1")" -v length_unit="$(unit_of "$1")" -v from="$(judged_from "$1")" '
+    awk -F'\t' -v form="$1" -v limit="$(limit_of "$1")" -v connectionsunit="$(unit_of "$1")" -v from="$(judged_from "$1")" '
         $4 == "proved" && $3 >= from + 0 {
             judged++
             if ($5 > most) most = $5
             if ($5 > limit) {
                 bad++
-                printf "TOO SLOW %s %s, %s, %s %s: %.3f of plain C\n", form, $1, $2, $3, length_unit, $5
+                printf "TOO SLOW %s %s, %s, %s %s: %.3f of plain C\n", form, $1, $2, $3, connectionsunit, $5
             }
         }
         END {
             printf "%s limit: %d of %d above %s of plain C; the most is %.3f\n", form, bad, judged, limit, most
             exit bad > 0 || judged == 0
+        }'
+}
+
+# fails where a sign-in of the proved one takes too many instructions, the copy of the image left out
+judge_sign_in() {
+    awk -F'\t' -v limits="${LIMIT_SIGN_IN:-20000 24000 55000}" '
+        BEGIN { split(limits, limit, " "); split("1 8 64", at, " ") }
+        $4 == "proved" && $2 == "none: the copy" { copy[$3] = $6 }
+        $4 == "proved" && $1 == "sign-in" && $2 == "2 mechanisms" { taken[$3] = $6 }
+        END {
+            for (i = 1; i <= 3; i++) {
+                connections = at[i]
+                if (!(connections in copy) || !(connections in taken) || limit[i] == "") { missing++; continue }
+                judged++
+                own = taken[connections] - copy[connections]
+                if (own / limit[i] > most) most = own / limit[i]
+                if (own > limit[i] + 0) {
+                    bad++
+                    printf "TOO SLOW calls sign-in, 2 mechanisms, %s connections: %d instructions\n", connections, own
+                }
+            }
+            printf "calls sign-in limit: %d of %d above %s instructions; the most is %.3f of its limit\n", bad, judged, limits, most
+            exit bad > 0 || missing > 0
+        }'
+}
+
+# fails where the proved one takes too many instructions on a pattern, beside the usual numbers with as many waiting
+judge_patterns() {
+    awk -F'\t' -v limit="${LIMIT_PATTERNS:-1.3}" '
+        $4 != "proved" || $3 != 64 { next }
+        $2 == "none: the copy" { copy = $6 }
+        $1 == "sign-in" && $2 == "2 mechanisms" { usual["patterns"] = $6 }
+        $1 == "all waiting" && $2 == "usual" { usual[$1] = $6; next }
+        $1 == "patterns" || $1 == "all waiting" { rows++; name[rows] = $1; kind[rows] = $2; taken[rows] = $6 }
+        END {
+            for (i = 1; i <= rows; i++) {
+                if (copy == 0 || usual[name[i]] <= copy) continue
+                judged++
+                ratio = (taken[i] - copy) / (usual[name[i]] - copy)
+                if (ratio > most) most = ratio
+                if (ratio > limit + 0) {
+                    bad++
+                    printf "TOO SLOW calls %s, %s: %.3f of the usual\n", name[i], kind[i], ratio
+                }
+            }
+            printf "calls patterns limit: %d of %d above %s of the usual; the most is %.3f\n", bad, judged, limit, most
+            exit bad > 0 || judged < rows || judged == 0
         }'
 }
 
@@ -202,6 +253,10 @@ if can_count; then
         count "$form" >"$out/$form.insn"
         if [ "$mode" = limit ]; then
             judge "$form" <"$out/$form.insn" || status=1
+            if [ "$form" = calls ]; then
+                judge_sign_in <"$out/$form.insn" || status=1
+                judge_patterns <"$out/$form.insn" || status=1
+            fi
         else
             print_tables "$form" instructions <"$out/$form.insn"
         fi
