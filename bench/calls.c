@@ -257,12 +257,12 @@ static bool every_256th(uint64_t number) {
     return number % 256 == 0;
 }
 
-/* those that the hash of the image's test (host/model.c) puts first into one place of its 512 */
-static bool of_one_digit(uint64_t number) {
-    return ((number & UINT32_MAX) * 2654435769 >> 23) % 512 == 0;
+/* those that the hash of the image's test (host/model.c has the same) puts first into one bucket */
+static bool of_one_bucket(uint64_t number) {
+    return number % 509 == 0;
 }
 
-enum pattern { USUAL, EVERY_64TH, EVERY_256TH, ONE_DIGIT, PATTERNS };
+enum pattern { USUAL, EVERY_64TH, EVERY_256TH, ONE_BUCKET, PATTERNS };
 
 static const struct {
     bool (*number)(uint64_t number);
@@ -271,7 +271,7 @@ static const struct {
     [USUAL] = {any_number, any_number},
     [EVERY_64TH] = {every_64th, any_number},
     [EVERY_256TH] = {every_256th, every_256th},
-    [ONE_DIGIT] = {of_one_digit, of_one_digit},
+    [ONE_BUCKET] = {of_one_bucket, of_one_bucket},
 };
 
 static bool next_ticket_fits(const struct run *run, enum pattern pattern) {
@@ -338,9 +338,9 @@ static const struct mix {
 } mixes[] = {
     {EVERY_64TH, false},
     {EVERY_256TH, false},
-    {ONE_DIGIT, false},
+    {ONE_BUCKET, false},
     {USUAL, true},
-    {ONE_DIGIT, true},
+    {ONE_BUCKET, true},
 };
 
 /* A whole sign-in, whose connection is the 64th. */
@@ -375,9 +375,9 @@ static const struct table tables[] = {
     {"longest", "challenge", rows, COUNT(rows), make_input, 14},
     {"patterns", "every 64th", rows, COUNT(rows), make_pattern, 0},
     {"patterns", "every 256th", rows, COUNT(rows), make_pattern, 1},
-    {"patterns", "one digit", rows, COUNT(rows), make_pattern, 2},
+    {"patterns", "one bucket", rows, COUNT(rows), make_pattern, 2},
     {"all waiting", "usual", rows, COUNT(rows), make_pattern, 3},
-    {"all waiting", "one digit", rows, COUNT(rows), make_pattern, 4},
+    {"all waiting", "one bucket", rows, COUNT(rows), make_pattern, 4},
 };
 
 /* A server is made once, so this call is compared but not measured. */

@@ -139,14 +139,14 @@ count() {
 
 # a table for each function: a row for each kind and contender, a column for each length
 print_tables() {
-    awk -F'\t' -v form="$1" -v unit="$2" -v connectionsunit="$(unit_of "$1")" '
+    awk -F'\t' -v form="$1" -v unit="$2" -v length_unit="$(unit_of "$1")" '
         function cells(name, key, field,    j, s) {
             s = ""
-            for (j = 1; j <= lengths[name]; j++) s = s sprintf(" %9s |", field[key, connectionsat[name, j]])
+            for (j = 1; j <= lengths[name]; j++) s = s sprintf(" %9s |", field[key, length_at[name, j]])
             return s
         }
         !($1 in known_function) { known_function[$1]; function_at[++functions] = $1 }
-        !(($1, $3) in known_length) { known_length[$1, $3]; connectionsat[$1, ++lengths[$1]] = $3 }
+        !(($1, $3) in known_length) { known_length[$1, $3]; length_at[$1, ++lengths[$1]] = $3 }
         {
             key = $1 FS $2 FS $4
             if (!(key in known_key)) { known_key[key]; key_at[++keys] = key }
@@ -156,8 +156,8 @@ print_tables() {
         END {
             for (k = 1; k <= functions; k++) {
                 name = function_at[k]
-                printf "\n| %-15s | %-21s |", form " " name, connectionsunit ":"
-                for (j = 1; j <= lengths[name]; j++) printf " %9s |", connectionsat[name, j]
+                printf "\n| %-15s | %-21s |", form " " name, length_unit ":"
+                for (j = 1; j <= lengths[name]; j++) printf " %9s |", length_at[name, j]
                 printf "\n|%s|%s|", "---", "---"
                 for (j = 1; j <= lengths[name]; j++) printf "---:|"
                 printf "\n"
@@ -173,13 +173,13 @@ print_tables() {
 
 # fails where the proved one takes too many instructions
 judge() {
-    awk -F'\t' -v form="$1" -v limit="$(limit_of "$1")" -v connectionsunit="$(unit_of "$1")" -v from="$(judged_from "$1")" '
+    awk -F'\t' -v form="$1" -v limit="$(limit_of "$1")" -v length_unit="$(unit_of "$1")" -v from="$(judged_from "$1")" '
         $4 == "proved" && $3 >= from + 0 {
             judged++
             if ($5 > most) most = $5
             if ($5 > limit) {
                 bad++
-                printf "TOO SLOW %s %s, %s, %s %s: %.3f of plain C\n", form, $1, $2, $3, connectionsunit, $5
+                printf "TOO SLOW %s %s, %s, %s %s: %.3f of plain C\n", form, $1, $2, $3, length_unit, $5
             }
         }
         END {

@@ -98,31 +98,32 @@ static inline const uint8_t *slot_at(const uint8_t *image, size_t index) {
     return image + SLOTS + index * SLOT_OCTETS;
 }
 
-/* The slots met so far that have a connection's number, and those that have a ticket, each in a hash table of 512 places. A place is
-   EMPTY or has a slot's index and IN_SLOT. A number may stand in four places: digits of nine bits of its product with 2^32 divided by
-   the golden ratio, which spreads numbers in turn. Its slot stands in the first of them that was empty, or in none where none was. No
-   place is ever emptied, so an equal number that comes later meets that slot, or again finds all four taken by others. */
-enum { PLACES = 512, DIGIT_BITS = 9, DIGITS = 4, LOWEST_BIT = 23, EMPTY = 0, IN_SLOT = 64 };
+/* The slots met so far that have a connection's number, and those that have a ticket, each in a hash table of 512 buckets. A bucket is
+   EMPTY or has a slot's index and IN_SLOT. A number's first bucket is its remainder modulo 509, the next ones are the digits of nine
+   bits of its quotient times 2^32 divided by the golden ratio. Its slot stands in the first of them that was empty, or in none where
+   none was. No bucket is ever emptied, so an equal number that comes later meets that slot, or again finds all taken by others. */
+enum { BUCKETS = 512, FIRST_BUCKETS = 509, LOWEST_BIT = 23, EMPTY = 0, IN_SLOT = 64 };
 
 struct met {
-    uint8_t numbers[PLACES];
-    uint8_t tickets[PLACES];
+    uint8_t numbers[BUCKETS];
+    uint8_t tickets[BUCKETS];
 };
 
-/* The first of a number's places that is empty or has its slot; NULL where other slots have all four. */
-static inline uint8_t *place_of(const uint8_t *image, size_t field, uint64_t number, uint8_t places[PLACES]) {
-    uint64_t digits = (number & UINT32_MAX) * 2654435769 >> LOWEST_BIT;
-    for (int i = 0; i < DIGITS; i++) {
-        uint8_t *place = &places[digits % PLACES];
-        if (*place == EMPTY || get_number(slot_at(image, *place - IN_SLOT) + field) == number) {
-            return place;
+/* The first of a number's buckets that is empty or has its slot; NULL where other slots have them all. */
+static inline uint8_t *bucket_of(const uint8_t *image, size_t field, uint64_t number, uint8_t buckets[BUCKETS]) {
+    uint8_t *bucket = &buckets[number % FIRST_BUCKETS];
+    uint64_t digits = (number / FIRST_BUCKETS & UINT32_MAX) * 2654435769 >> LOWEST_BIT;
+    while (*bucket != EMPTY && get_number(slot_at(image, *bucket - IN_SLOT) + field) != number) {
+        if (digits == 0) {
+            return NULL;
         }
-        digits >>= DIGIT_BITS;
+        bucket = &buckets[digits % BUCKETS];
+        digits /= BUCKETS;
     }
-    return NULL;
+    return bucket;
 }
 
-/* Where all four places are taken by others, the slots before are looked through. */
+/* Where all buckets are taken by others, the slots before are looked through. */
 static bool stands_before(const uint8_t *image, size_t index, size_t field, uint64_t number) {
     for (size_t i = 0; i < index; i++) {
         const uint8_t *slot = slot_at(image, i);
@@ -135,16 +136,16 @@ static bool stands_before(const uint8_t *image, size_t index, size_t field, uint
 }
 
 /* Whether no slot before has the number of this one in a field, NUMBER or TICKET. */
-static inline bool is_new(const uint8_t *image, size_t index, size_t field, uint8_t places[PLACES]) {
+static inline bool is_new(const uint8_t *image, size_t index, size_t field, uint8_t buckets[BUCKETS]) {
     uint64_t number = get_number(slot_at(image, index) + field);
-    uint8_t *place = place_of(image, field, number, places);
-    if (place == NULL) {
+    uint8_t *bucket = bucket_of(image, field, number, buckets);
+    if (bucket == NULL) {
         return !stands_before(image, index, field, number);
     }
-    if (*place != EMPTY) {
+    if (*bucket != EMPTY) {
         return false;
     }
-    *place = (uint8_t)(index + IN_SLOT);
+    *bucket = (uint8_t)(index + IN_SLOT);
     return true;
 }
 

@@ -1,36 +1,37 @@
 /* "open connections' numbers differ .., waiting tickets likewise", with numbers that are hard to tell apart by a hash: they share
-   digits of the model's (host/model.c), up to all four. What is tested and the model must take the same images, and those where all
-   differ alone. */
+   buckets of the one that is used (host/model.c), up to all. What is tested and the model must take the same images, and those where
+   all differ alone. */
 #include "both.h"
 #include <string.h>
 
-/* The digits of nine bits, the first one lowest. */
-enum { DIGIT_BITS = 9, DIGITS = 4 };
+/* The buckets after the first are digits of nine bits of the quotient's product, the first one lowest. */
+enum { FIRST_BUCKETS = 509, DIGIT_BITS = 9, ALL_DIGITS = 4 };
 
-static uint64_t digits_of(uint64_t number) {
-    return (number & UINT32_MAX) * 2654435769 >> 23;
+static uint64_t digits_of(uint64_t quotient) {
+    return (quotient & UINT32_MAX) * 2654435769 >> 23;
 }
 
-/* The next number that has the same first digits, so many. One more adds less than 317 to the digits, so those between can be passed
+/* The next quotient that has the same first digits, so many. One more adds less than 317 to the digits, so those between can be passed
    over; from 2^32 on they are as from 0 on. */
-static uint64_t next_alike(uint64_t number, size_t digits) {
+static uint64_t next_alike(uint64_t quotient, size_t digits) {
     uint64_t mask = ((uint64_t)1 << DIGIT_BITS * digits) - 1;
-    uint64_t wanted = digits_of(number) & mask;
+    uint64_t wanted = digits_of(quotient) & mask;
     do {
-        uint64_t missing = (wanted - digits_of(number)) & mask;
+        uint64_t missing = (wanted - digits_of(quotient)) & mask;
         uint64_t step = missing < 317 ? 1 : missing / 317;
-        uint64_t to_the_end = UINT32_MAX - (number & UINT32_MAX) + 1;
-        number += step < to_the_end ? step : to_the_end;
-    } while ((digits_of(number) & mask) != wanted);
-    return number;
+        uint64_t to_the_end = UINT32_MAX - (quotient & UINT32_MAX) + 1;
+        quotient += step < to_the_end ? step : to_the_end;
+    } while ((digits_of(quotient) & mask) != wanted);
+    return quotient;
 }
 
 static uint64_t alike[UMBRELNIC_MOST_CONNECTIONS];
 
-static void make_alike(uint64_t first, size_t digits) {
-    alike[0] = first;
-    for (size_t i = 1; i < COUNT(alike); i++) {
-        alike[i] = next_alike(alike[i - 1], digits);
+/* 64 numbers with one remainder, and so one first bucket, whose quotients begin with the same digits. */
+static void make_alike(uint64_t remainder, uint64_t quotient, size_t digits) {
+    for (size_t i = 0; i < COUNT(alike); i++) {
+        alike[i] = quotient * FIRST_BUCKETS + remainder;
+        quotient = next_alike(quotient, digits);
     }
 }
 
@@ -85,10 +86,14 @@ static void expect_told_apart(size_t field) {
 }
 
 static void expect_digits_told_apart(size_t digits) {
-    make_alike(1000, digits);
+    make_alike(491, 1000, digits);
     make_full_server();
     expect_told_apart(NUMBER);
     expect_told_apart(TICKET);
+}
+
+static void first_bucket_alike(void) {
+    expect_digits_told_apart(0);
 }
 
 static void one_digit_alike(void) {
@@ -103,16 +108,17 @@ static void three_digits_alike(void) {
     expect_digits_told_apart(3);
 }
 
-static void equal_modulo_2_to_the_32(void) {
-    expect_digits_told_apart(DIGITS);
-    EXPECT_NUMBER(alike[63], 1000 + ((uint64_t)63 << 32));
+/* The quotients are equal modulo 2^32. */
+static void all_buckets_alike(void) {
+    expect_digits_told_apart(ALL_DIGITS);
+    EXPECT_NUMBER(alike[63] / FIRST_BUCKETS, 1000 + ((uint64_t)63 << 32));
 }
 
 /* 0 is a real number and a real ticket, and the zeros of a slot that has none are not: a slot without one, whichever, beside a first,
    middle or last slot that has 0. */
 static void zero_beside_slots_that_have_none(void) {
     static const size_t zero_at[] = {0, 31, 63};
-    make_alike(0, DIGITS);
+    make_alike(0, 0, ALL_DIGITS);
     make_full_server();
     for (size_t k = 0; k < COUNT(zero_at); k++) {
         for (size_t i = 0; i < COUNT(alike); i++) {
@@ -134,10 +140,11 @@ static void zero_beside_slots_that_have_none(void) {
 
 int main(void) {
     static const struct test tests[] = {
+        TEST(first_bucket_alike),
         TEST(one_digit_alike),
         TEST(two_digits_alike),
         TEST(three_digits_alike),
-        TEST(equal_modulo_2_to_the_32),
+        TEST(all_buckets_alike),
         TEST(zero_beside_slots_that_have_none),
     };
     return RUN_TESTS("numbers", tests);
