@@ -17,7 +17,7 @@ use Rattle.octets.proofs.Cases.{both}
 use Rattle.codec.proofs.Arrays.{getArray-length}
 use Rattle.server.specs.Limits.{mostConnections}
 use Rattle.server.specs.Server.{Slot}
-use Rattle.server.specs.WellFormed.{has, clashes, apart, differ}
+use Rattle.server.specs.WellFormed.{has, apart, differ}
 use Rattle.image.specs.Sizes.{serverSlots}
 use Rattle.image.specs.Layout.{slot}
 use Rattle.image.specs.Private.{buckets, firstBucket, spread, digits, bucketsOf, isOf, emptyBucket, isMet, slotsAt, Met, isNew}

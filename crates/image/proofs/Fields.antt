@@ -1,15 +1,14 @@
 -- An open connection judged where it stands, field by field as numbers. l: octets; o: each is below 256. Assumes nothing.
 use mathlib.Core.Path.{_≡_, refl, sym, ap, _∙_}
-use mathlib.Core.Bool.{Bool, true, false, cond, not, _&&_, _||_, and-assoc, and-comm, and-true, and-false}
-use mathlib.Core.Option.{some}
+use mathlib.Core.Bool.{Bool, true, false, _&&_, and-assoc, and-comm, and-true, and-false}
 use mathlib.Core.List.{List}
-use Prim.Native.Nat.{ℕ, zero, suc, _+_, _-_, _*_, _/_, _%_, _<_, _≤_}
+use Prim.Native.Nat.{ℕ, zero, suc, _+_, _*_, _/_, _%_, _<_}
 use native.Mathlib.Omega.{arith}
-use native.Mathlib.Nat.{add-zero, add-assoc}
+use native.Mathlib.Nat.{add-assoc}
 use lib.Dec.{eqb, leb, ltb, eqb·suc-zero, eqb·zero-suc}
 use borrow.Author.Tests.{eq-eqb, ne-eqb, lt-leb, le-ltb}
-use lib.ListN.{getD, drop, replicate}
-use Rattle.octets.specs.Lists.{same, before, paddedTo}
+use lib.ListN.{getD, replicate}
+use Rattle.octets.specs.Lists.{same}
 use Rattle.octets.proofs.Padding.{run, padded-run}
 use Rattle.codec.specs.Codec.{octet, putOctet, putNumber, getNumber, putArray, getArray, bit, isOne}
 use Rattle.codec.specs.InPlace.{standsAt, canonicalAt, everyAt}
@@ -19,12 +18,11 @@ use Rattle.codec.proofs.Arrays.{octets-put, getArray-length}
 use Rattle.profile.specs.Numbers.{profileNumber}
 use Rattle.session.specs.Limits.{mostChallenges, longestName}
 use Rattle.session.specs.Session.{signedIn, nameOf}
-use Rattle.session.specs.Verdict.{graphic, isName}
+use Rattle.session.specs.Verdict.{graphic}
 use Rattle.session.specs.WellFormed.{sentWithin, nameWithin}
 use Rattle.session.specs.declared.Phase.{Phase}
 use Rattle.session.specs.declared.Session.{Session}
 use Rattle.server.specs.WellFormed.{isBelow, phaseTicket, slotWithin}
-use Rattle.server.specs.declared.Connection.{Connection}
 use Rattle.server.specs.declared.Header.{Header}
 use Rattle.server.specs.declared.Mechanism.{Mechanism}
 use Rattle.image.specs.Sizes.{phaseSize, sessionPhase, sessionName, connectionSession}
@@ -33,7 +31,7 @@ use Rattle.image.specs.Private.{headerFits, phaseFits, followsAt, runsAt
 use Rattle.image.proofs.Lawful.{any-lawful, phase-lawful}
 use Rattle.image.proofs.Offsets.{phase-size, phase-get, session-get, connection-get, mechanism-get, header-get}
 use Rattle.image.proofs.Parts.{header-below}
-use Rattle.image.proofs.Zeros.{number-zero, zeros-split}
+use Rattle.image.proofs.Pieces.{places-shared, number-zero, zeros-split}
 
 zero-here : (x : ℕ) → eqb 0 x ≡ eqb x 0
 zero-here zero = refl
@@ -129,35 +127,6 @@ unfolding run getArray everyAt
 run-runs l zero at = refl
 run-runs l (suc n) at = ap (λ (b : Bool). followsAt l at && b) (run-runs l n (at + 1))
 
--- two runs that share a place
-shared-place : (p : ℕ → Bool) (m n at : ℕ) → (everyAt p 1 (m + 1) at && everyAt p 1 (suc n) (at + m)) ≡ everyAt p 1 (m + suc n) at
-unfolding everyAt
-shared-place p zero n at = let z : 0 + suc n ≡ suc n = omega arith in rw (z, add-zero) (go (p at))
-  where
-    go : (b : Bool) → ((b && true) && (b && everyAt p 1 n (at + 1))) ≡ (b && everyAt p 1 n (at + 1))
-    go true = refl
-    go false = refl
-shared-place p (suc m) n at =
-    let a : suc m + 1 ≡ suc (m + 1) = omega arith in
-    let b : suc m + suc n ≡ suc (m + suc n) = omega arith in
-    let e : at + suc m ≡ at + 1 + m = omega arith in
-    rw (a, b, e) (and-assoc (p at) (everyAt p 1 (m + 1) (at + 1)) (everyAt p 1 (suc n) (at + 1 + m)) ∙ ap (λ (b : Bool). p at && b) (shared-place p m n (at + 1)))
-
--- a loop over a run that does not leave early: w is what the whole comes to, ok what came of the first i places
-module _ (w ok : Bool) (l : List ℕ) (n at i : ℕ) (inv : w ≡ (ok && runsAt l (n - i) (at + i))) where
-  pub runs-turn : i < n → w ≡ ((ok && followsAt l (at + i)) && runsAt l (n - (i + 1)) (at + (i + 1)))
-  unfolding runsAt everyAt
-  runs-turn h =
-      let e : n - i ≡ suc (n - (i + 1)) = omega arith in
-      let f : at + i + 1 ≡ at + (i + 1) = omega arith in
-      inv ∙ rw (e, ← f) (sym (and-assoc ok (followsAt l (at + i)) (everyAt (followsAt l) 1 (n - (i + 1)) (at + i + 1))))
-
-  pub runs-end : n ≤ i → w ≡ ok
-  unfolding runsAt everyAt
-  runs-end h =
-      let e : n - i ≡ 0 = omega arith in
-      inv ∙ rw e (and-true ok)
-
 stands-own : (l : List ℕ) (n at : ℕ) → standsAt (getArray octet n l at) l at ≡ true
 unfolding standsAt getArray
 stands-own l zero at = refl
@@ -173,9 +142,9 @@ module _ (l : List ℕ) (at : ℕ) where
   octets-canonical n = ap (λ (v : List ℕ). standsAt v l at) (octets-put n (getArray octet n l at) (getArray-length octet n l at)) ∙ stands-own l n at
 
   name-runs : (graphic (getD l at 0) && (runsAt l 32 at && runsAt l 32 (at + 31))) ≡ nameFits l true at
-  unfolding nameFits runsAt getArray
+  unfolding nameFits getArray
   name-runs =
-      ap (λ (b : Bool). graphic (getD l at 0) && b) (shared-place (followsAt l) 31 31 at ∙ sym (run-runs l 63 at))
+      ap (λ (b : Bool). graphic (getD l at 0) && b) (places-shared (followsAt l) 31 1 31 at ∙ sym (run-runs l 63 at))
       ∙ padded-run graphic longestName (nameAt l at) refl (getArray-length octet longestName l at) (omega arith)
 
   pub name-signed : graphic (getD l at 0) ≡ true → (runsAt l 32 at && runsAt l 32 (at + 31)) ≡ nameFits l true at

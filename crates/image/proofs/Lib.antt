@@ -6,8 +6,9 @@ pub mod Places
 pub mod Differ
 pub mod Keys
 pub mod Parts
-pub mod Zeros
+pub mod Pieces
 pub mod Fields
+pub mod Table
 pub mod Walk
 pub mod Split
 pub mod Stores

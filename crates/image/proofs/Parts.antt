@@ -1,27 +1,25 @@
 -- Parts of an image tested where they stand. Assumes nothing.
-use mathlib.Core.Path.{_≡_, sym, ap, _∙_}
-use mathlib.Core.Bool.{true, false, cond, _&&_, and-true}
+use mathlib.Core.Path.{_≡_, sym, ap}
+use mathlib.Core.Bool.{true, false, cond, and-true}
 use mathlib.Core.List.{List}
-use Prim.Native.Nat.{ℕ, zero, suc, _+_, _^_, _<_, _≤_}
+use Prim.Native.Nat.{ℕ, zero, suc, _+_, _^_, _<_}
 use native.Mathlib.Omega.{arith}
 use native.Mathlib.Nat.{pow-suc}
-use borrow.Author.Tests.{lt-ltb, le-leb, lt-leb}
+use borrow.Author.Tests.{lt-ltb}
 use lib.ListN.{getD, replicate}
-use Rattle.codec.specs.Codec.{isOne, getNumber, getArray, listed}
+use Rattle.codec.specs.Codec.{isOne, getNumber, getArray}
 use Rattle.codec.specs.InPlace.{standsAt, canonicalAt}
-use Rattle.codec.proofs.InPlace.{everyPlace}
-use Rattle.codec.proofs.Listed.{placeAt, canonical-places, canonical-option}
+use Rattle.codec.proofs.Listed.{canonical-option}
 use Rattle.server.specs.Limits.{mostMechanisms, numberBound}
 use Rattle.server.specs.WellFormed.{headerWithin, slotWithin}
 use Rattle.server.specs.declared.Header.{Header}
 use Rattle.server.specs.declared.Mechanism.{Mechanism}
 use Rattle.server.specs.declared.Mechanisms.{Mechanisms}
-use Rattle.image.specs.Sizes.{slotSize, mechanismSize, serverMechanisms}
+use Rattle.image.specs.Sizes.{slotSize, serverMechanisms}
 use Rattle.image.specs.Layout.{connection, slot, mechanism, header}
 use Rattle.image.specs.InPlace.{mechanismOffset, tableAt}
 use Rattle.image.specs.Private.{connectionFits, slotFits}
-use Rattle.image.proofs.Lawful.{mechanism-lawful}
-use Rattle.image.proofs.Offsets.{header-get, mechanism-size, slot-size, slot-get}
+use Rattle.image.proofs.Offsets.{header-get, slot-size, slot-get}
 
 -- ---- a header: what eight octets are read as is below 2^64
 
@@ -36,21 +34,6 @@ pub header-below : (l : List ℕ) → ((i : ℕ) → getD l i 0 < 256) → heade
 unfolding headerWithin
 header-below l o =
     rw (header-get, lt-ltb (getNumber 8 l 0) numberBound (number-below l o 8 0), lt-ltb (getNumber 8 l 8) numberBound (number-below l o 8 8))
-
--- ---- the mechanisms: w is whether they stand there
-
-module _ (l : List ℕ) where
-  pub mechanisms-many : mostMechanisms < getD l serverMechanisms 0 → false ≡ canonicalAt (listed mechanism mostMechanisms) l serverMechanisms
-  mechanisms-many h =
-      sym (canonical-places mechanism-lawful mechanismSize mechanism-size mostMechanisms l serverMechanisms
-      ∙ rw (lt-leb (getD l serverMechanisms 0) mostMechanisms h))
-
-  pub mechanisms-start : getD l serverMechanisms 0 ≤ mostMechanisms
-      → canonicalAt (listed mechanism mostMechanisms) l serverMechanisms
-      ≡ everyPlace (placeAt mechanism mechanismSize (getD l serverMechanisms 0) l) mechanismSize 0 mostMechanisms (mechanismOffset 0)
-  mechanisms-start h =
-      canonical-places mechanism-lawful mechanismSize mechanism-size mostMechanisms l serverMechanisms
-      ∙ rw (le-leb (getD l serverMechanisms 0) mostMechanisms h)
 
 -- ---- a slot
 

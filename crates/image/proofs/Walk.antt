@@ -20,7 +20,7 @@ use Rattle.image.specs.Private.{connectionFits, slotFits, slotsAt, slots
 use Rattle.image.proofs.Differ.{differ-turn, differ-end}
 use Rattle.image.proofs.Keys.{number-skips, ticket-skips, free-new, free-new-ticket}
 use Rattle.image.proofs.Parts.{slot-open, slot-free}
-use Rattle.image.proofs.Zeros.{zeros-split, zeros-first}
+use Rattle.image.proofs.Pieces.{zeros-split, zeros-first}
 
 -- ---- the walk
 

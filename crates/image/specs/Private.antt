@@ -1,6 +1,6 @@
 -- What the functions that test an image part by part come to.
 use mathlib.Core.Path.{_≡_}
-use mathlib.Core.Bool.{Bool, true, false, cond, not, _&&_, _||_}
+use mathlib.Core.Bool.{Bool, true, cond, not, _&&_, _||_}
 use mathlib.Core.List.{List, [], _∷_}
 use mathlib.Core.Option.{Option, none, some}
 use Prim.Native.Nat.{ℕ, zero, suc, _+_, _-_, _*_, _/_, _%_, _≤_}
@@ -9,12 +9,13 @@ use lib.ListN.{length, getD, drop, replicate}
 use Rattle.octets.specs.Lists.{every, same, before, paddedTo}
 use Rattle.codec.specs.Codec.{octet, getNumber, getArray, listed}
 use Rattle.codec.specs.InPlace.{standsAt, canonicalAt, everyAt}
+use Rattle.lines.specs.Mechanism.{mechChar}
 use Rattle.session.specs.Limits.{mostChallenges, longestName}
 use Rattle.session.specs.Verdict.{graphic, isName}
 use Rattle.server.specs.Limits.{mostConnections, mostMechanisms}
 use Rattle.server.specs.Mechanisms as Mechanisms
 use Rattle.server.specs.Server.{Slot}
-use Rattle.server.specs.WellFormed.{clashes, differ, numberOf, ticketOf, slotWithin, mechanismsWithin, headerWithin}
+use Rattle.server.specs.WellFormed.{clashes, differ, numberOf, ticketOf, slotWithin, sameName, mechanismWithin, mechanismsWithin, headerWithin}
 use Rattle.server.specs.declared.Header.{Header}
 use Rattle.image.specs.Sizes.{phaseSize, sessionPhase, connectionSession, slotSize, serverMechanisms, serverSlots}
 use Rattle.image.specs.Layout.{connection, slot, mechanism, header}
@@ -27,6 +28,9 @@ headerFits l = canonicalAt header l 0 && headerWithin (header .get l 0)
 
 unfoldable pub mechanismsFit : Image → Bool
 mechanismsFit l = canonicalAt (listed mechanism mostMechanisms) l serverMechanisms && mechanismsWithin (Mechanisms.listed (tableAt l))
+
+unfoldable pub mechanismFits : Image → ℕ → Bool
+mechanismFits l at = canonicalAt mechanism l at && mechanismWithin (mechanism .get l at)
 
 unfoldable pub connectionFits : Image → Header → ℕ → Bool
 connectionFits l h at = canonicalAt connection l at && slotWithin h (some (connection .get l at))
@@ -42,7 +46,7 @@ phaseFits x k t b = leb x 3 && (leb k (cond (leb x 1) 0 mostChallenges) && ltb t
 abbrev pub followsAt : Image → ℕ → Bool
 followsAt l j = eqb (getD l (j + 1) 0) 0 || graphic (getD l (j + 1) 0) && not (eqb (getD l j 0) 0)
 
-unfoldable pub runsAt : Image → ℕ → ℕ → Bool
+abbrev pub runsAt : Image → ℕ → ℕ → Bool
 runsAt l n at = everyAt (followsAt l) 1 n at
 
 -- 64 octets: the name of who is signed in, padded with NUL; of anyone else, zeros
@@ -57,6 +61,17 @@ nameFits l b at =
 unfoldable pub phasedFits : Image → ℕ → ℕ → Bool
 phasedFits l b at =
     phaseFits (getD l at 0) (getD l (at + 1) 0) (getNumber 8 l (at + 2)) b && nameFits l (eqb (getD l at 0) 1) (at + phaseSize)
+
+-- an octet may stand where it does in a mechanism's name that is padded with NUL, by what follows it; and as the last one
+abbrev pub mayStandAt : Image → ℕ → Bool
+mayStandAt l j = mechChar (getD l j 0) || eqb (getD l j 0) 0 && eqb (getD l (j + 1) 0) 0
+
+abbrev pub mayEnd : ℕ → Bool
+mayEnd x = mechChar x || eqb x 0
+
+-- the mechanism at one index has another name than the one at another
+abbrev pub isOtherAt : Image → ℕ → ℕ → Bool
+isOtherAt l at b = not (sameName (mechanism .get l at) (mechanism .get l b))
 
 -- the slots, and whether their numbers and tickets differ
 abbrev pub slotsAt : Image → List Slot

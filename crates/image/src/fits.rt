@@ -1,35 +1,28 @@
-// Parts of an image tested where they stand: each field as a number, and nothing is written again. Only the mechanisms are read by value, for
-// the tests of their names.
+// Parts of an image tested where they stand: each field as a number, and nothing is written again.
 ghost use mathlib.Core.Path.{_≡_};
-ghost use mathlib.Core.Bool.{true, cond, _&&_};
+ghost use mathlib.Core.Bool.{true, _&&_};
 ghost use Prim.Native.Nat.{_+_, _-_, _*_, _%_, _<_, _≤_};
 ghost use lib.Dec.{eqb, leb, ltb};
 ghost use lib.ListN.{length, getD, replicate};
-ghost use Rattle.codec.specs.Codec.{getNumber, listed};
-ghost use Rattle.codec.specs.InPlace.{standsAt, canonicalAt, everyAt};
+ghost use Rattle.codec.specs.Codec.{getNumber};
+ghost use Rattle.codec.specs.InPlace.{standsAt, everyAt};
 ghost use Rattle.session.specs.Limits.{mostChallenges, longestName};
 ghost use Rattle.session.specs.Verdict.{graphic};
-ghost use Rattle.server.specs.Limits.{mostConnections, mostMechanisms};
+ghost use Rattle.server.specs.Limits.{mostConnections};
 ghost use Rattle.server.specs.WellFormed.{numberOf, ticketOf};
-ghost use Rattle.image.specs.Sizes.{phaseSize, sessionPhase, mechanismSize, connectionSize, slotSize, serverMechanisms, serverSlots, imageSize};
-ghost use Rattle.image.specs.Layout.{mechanism};
+ghost use Rattle.image.specs.Sizes.{phaseSize, sessionPhase, connectionSize, slotSize, serverSlots, imageSize};
 ghost use Rattle.image.specs.InPlace.{slotOffset};
-ghost use Rattle.image.specs.Private.{headerFits, mechanismsFit, runsAt, nameFits, phasedFits, connectionFits, slotFits, slotsDiffer, slotNumber, slotTicket, Met, joins};
+ghost use Rattle.image.specs.Private.{headerFits, runsAt, nameFits, phasedFits, connectionFits, slotFits, slotsDiffer, slotNumber, slotTicket, Met, joins};
 use crate::leaves::are_zeros;
 use crate::leaves::read_flag;
 use crate::leaves::read_number;
-use crate::records::read_table;
 use crate::sizes::CONNECTION_SESSION;
 use crate::sizes::HEADER_SEALED;
-use crate::sizes::MECHANISM;
-use crate::sizes::MECHANISM_CLIENT_FIRST;
-use crate::sizes::MECHANISM_NEEDS_PROTECTION;
 use crate::sizes::MOST_CONNECTIONS;
 use crate::sizes::NUMBER;
 use crate::sizes::PHASE;
 use crate::sizes::PHASE_SENT;
 use crate::sizes::PHASE_TICKET;
-use crate::sizes::SERVER_MECHANISMS;
 use crate::sizes::SERVER_SLOTS;
 use crate::sizes::SESSION_PHASE;
 use crate::sizes::SLOT;
@@ -41,7 +34,6 @@ use crate::unique::BUCKETS;
 use crate::unique::adds_number;
 use crate::unique::adds_ticket;
 use server::Header;
-use server::MOST_MECHANISMS;
 use session::Session;
 
 // The last octet of a header is a yes-or-no; its numbers may be any.
@@ -50,44 +42,6 @@ pub(crate) fn header_fits(image: &[u8]) -> bool
     ensures { λ r. ⌜ r ≡ headerFits (now (image .entry)) ⌝ }
 {
     image[HEADER_SEALED] <= 1
-}
-
-// The record at index i of a table of so many mechanisms: a mechanism, whose name is tested elsewhere, or zeros, in two pieces that share octets.
-fn mechanism_stands(image: &[u8], at: usize, i: usize, count: usize) -> bool
-    requires { ⌜ at + mechanismSize ≤ length (now image) ⌝ }
-    ensures { λ r. ⌜ r ≡ cond (ltb i count) (canonicalAt mechanism (now (image .entry)) at) (standsAt (replicate mechanismSize 0) (now (image .entry)) at) ⌝ }
-{
-    if i < count {
-        return (image[at + MECHANISM_CLIENT_FIRST] <= 1)
-            & (image[at + MECHANISM_NEEDS_PROTECTION] <= 1);
-    }
-    are_zeros(image, at, 16) & are_zeros(image, at + 6, 16)
-}
-
-fn mechanisms_stand(image: &[u8]) -> bool
-    requires { ⌜ length (now image) ≡ imageSize ⌝ }
-    ensures { λ r. ⌜ r ≡ canonicalAt (listed mechanism mostMechanisms) (now (image .entry)) serverMechanisms ⌝ }
-{
-    let count = image[SERVER_MECHANISMS] as usize;
-    if MOST_MECHANISMS < count {
-        return false;
-    }
-    let mut i = 0;
-    while i < MOST_MECHANISMS {
-        if !mechanism_stands(image, SERVER_MECHANISMS + 1 + i * MECHANISM, i, count) {
-            return false;
-        }
-        i += 1;
-    }
-    true
-}
-
-pub(crate) fn mechanisms_fit(image: &[u8]) -> bool
-    requires { ⌜ length (now image) ≡ imageSize ⌝ }
-    ensures { λ r. ⌜ r ≡ mechanismsFit (now (image .entry)) ⌝ }
-{
-    let table = read_table(image);
-    mechanisms_stand(image) & table.are_well_formed()
 }
 
 // ---- a name

@@ -19,6 +19,7 @@ use sizes::SLOT;
 
 mod fits;
 mod leaves;
+mod mechanisms;
 mod records;
 mod sizes;
 mod slots;
@@ -41,7 +42,7 @@ pub fn is_taken(image: &[u8]) -> bool
         return false;
     }
     let header = records::read_header(image, 0);
-    fits::header_fits(image) & (fits::mechanisms_fit(image) & fits::slots_fit(image, header))
+    fits::header_fits(image) & (mechanisms::mechanisms_fit(image) & fits::slots_fit(image, header))
 }
 
 // The open connection with this number.

@@ -1,6 +1,6 @@
 use borrow.Author.Tests.{eq-eqb, ne-eqb}
 use borrow.Author.Needs.{needs}
-use Rattle.image.proofs.Zeros.{zeros-none}
+use Rattle.image.proofs.Pieces.{zeros-none}
 use Rattle.image.proofs.fits.are_free.Statement.{statement}
 use Rattle.image.proofs.fits.are_free.Tie as tie
 

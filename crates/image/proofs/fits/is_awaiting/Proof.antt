@@ -1,7 +1,7 @@
 use mathlib.Core.Path.{sym, _∙_}
 use borrow.Author.Tests.{le-leb, lt-leb, not-true, not-false}
 use borrow.Author.Needs.{needs}
-use Rattle.image.proofs.Zeros.{awaiting-first, awaiting-second}
+use Rattle.image.proofs.Pieces.{awaiting-first, awaiting-second}
 use Rattle.image.proofs.fits.is_awaiting.Statement.{statement}
 use Rattle.image.proofs.fits.is_awaiting.Tie as tie
 

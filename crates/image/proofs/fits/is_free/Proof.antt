@@ -1,7 +1,7 @@
 use mathlib.Core.Path.{sym, _∙_}
 use borrow.Author.Tests.{not-true, not-false}
 use borrow.Author.Needs.{needs}
-use Rattle.image.proofs.Zeros.{slot-first, slot-second}
+use Rattle.image.proofs.Pieces.{slot-first, slot-second}
 use Rattle.image.proofs.fits.is_free.Statement.{statement}
 use Rattle.image.proofs.fits.is_free.Tie as tie
 

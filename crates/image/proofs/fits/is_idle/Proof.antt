@@ -1,7 +1,7 @@
 use mathlib.Core.Path.{sym, _∙_}
 use borrow.Author.Tests.{not-true, not-false}
 use borrow.Author.Needs.{needs}
-use Rattle.image.proofs.Zeros.{idle-first, idle-second}
+use Rattle.image.proofs.Pieces.{idle-first, idle-second}
 use Rattle.image.proofs.fits.is_idle.Statement.{statement}
 use Rattle.image.proofs.fits.is_idle.Tie as tie
 

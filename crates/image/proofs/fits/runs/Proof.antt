@@ -4,7 +4,7 @@ use Prim.Native.Nat.{_+_, _-_, _≤_}
 use native.Mathlib.Nat.{add-zero}
 use borrow.Author.Needs.{needs}
 use Rattle.image.specs.Private.{runsAt}
-use Rattle.image.proofs.Fields.{runs-turn, runs-end}
+use Rattle.image.proofs.Pieces.{places-turn, places-end}
 use Rattle.image.proofs.fits.runs.Statement.{statement}
 use Rattle.image.proofs.fits.runs.Tie as tie
 
@@ -17,7 +17,7 @@ abbrev μ-loop : tie.MeasureT-loop
 loop-again : tie.Need-loop-again Inv-loop μ-loop
 loop-again c =
     let l = c .before .before .before .before .before in
-    (search needs, rw (c .before .is-graphic .ensures) (runs-turn _ (l .loop .ok) _ 32 _ _ (l .loop .inv .1) (c .before .before .before .before .loop-test .taken)))
+    (search needs, rw (c .before .is-graphic .ensures) (places-turn _ _ (l .loop .ok) 32 _ _ (l .loop .inv .1) (c .before .before .before .before .loop-test .taken)))
 
 pub runs-spec : {M : Type 1} → statement M
 runs-spec =
@@ -38,4 +38,4 @@ runs-spec =
     (λ c. search needs)
     (λ c. search needs)
     loop-again
-    (λ c. sym (runs-end _ (c .before .loop .ok) _ 32 _ _ (c .before .loop .inv .1) (c .loop-test .left))))
+    (λ c. sym (places-end _ _ (c .before .loop .ok) 32 _ _ (c .before .loop .inv .1) (c .loop-test .left))))

@@ -1,18 +1,61 @@
--- Zeros in two pieces that share octets, and a number that is zero. Assumes nothing.
+-- Places in a row tested in two pieces that share some, zeros among them, and a number that is zero. Assumes nothing.
 use mathlib.Core.Path.{_≡_, refl, sym, ap, ap₂, _∙_}
-use mathlib.Core.Bool.{Bool, true, false, _&&_}
+use mathlib.Core.Bool.{Bool, true, false, _&&_, and-assoc, and-true}
 use mathlib.Core.List.{List}
-use Prim.Native.Nat.{ℕ, zero, suc, _+_, _*_}
+use Prim.Native.Nat.{ℕ, zero, suc, _+_, _-_, _*_, _<_, _≤_}
 use native.Mathlib.Omega.{arith}
+use native.Mathlib.Nat.{add-zero}
 use lib.Dec.{eqb}
 use borrow.Author.Tests.{eqb-true, eq-eqb, ne-eqb}
 use lib.ListN.{getD, replicate, length-replicate, replicate-append-replicate}
 use Rattle.octets.proofs.Cases.{both}
 use Rattle.codec.specs.Codec.{putNumber, getNumber}
-use Rattle.codec.specs.InPlace.{standsAt}
+use Rattle.codec.specs.InPlace.{standsAt, everyAt}
 use Rattle.codec.proofs.InPlace.{standsAt-append}
 use Rattle.session.specs.Limits.{longestName}
-use Rattle.image.specs.Sizes.{mechanismSize, slotSize}
+use Rattle.image.specs.Sizes.{slotSize}
+
+shared : (a b c : Bool) → ((a && b) && (b && c)) ≡ (a && (b && c))
+shared true true c = refl
+shared true false c = refl
+shared false b c = refl
+
+-- ---- a test at places in turn, in two pieces that share places
+
+module _ (p : ℕ → Bool) where
+  pub places-split : (m n at : ℕ) → everyAt p 1 (m + n) at ≡ (everyAt p 1 m at && everyAt p 1 n (at + m))
+  unfolding everyAt
+  places-split zero n at = let z : 0 + n ≡ n = omega arith in rw (z, add-zero)
+  places-split (suc m) n at =
+      let e : suc m + n ≡ suc (m + n) = omega arith in
+      let f : at + suc m ≡ at + 1 + m = omega arith in
+      rw (e, f, places-split m n (at + 1)) (sym (and-assoc (p at) (everyAt p 1 m (at + 1)) (everyAt p 1 n (at + 1 + m))))
+
+  -- they share b places: the first has a more, the second c more
+  pub places-shared : (a b c at : ℕ) → (everyAt p 1 (a + b) at && everyAt p 1 (b + c) (at + a)) ≡ everyAt p 1 (a + (b + c)) at
+  places-shared a b c at =
+      let z : everyAt p 1 (b + c) (at + a) ≡ (everyAt p 1 b (at + a) && everyAt p 1 c (at + a + b)) = places-split b c (at + a) in
+      ap₂ _&&_ (places-split a b at) z
+      ∙ shared (everyAt p 1 a at) (everyAt p 1 b (at + a)) (everyAt p 1 c (at + a + b))
+      ∙ ap (λ (t : Bool). everyAt p 1 a at && t) (sym z)
+      ∙ sym (places-split a (b + c) at)
+
+  -- a loop over the places that does not leave early: w is what the whole comes to, ok what came of the first i places
+  module _ (w ok : Bool) (n at i : ℕ) (inv : w ≡ (ok && everyAt p 1 (n - i) (at + i))) where
+    pub places-turn : i < n → w ≡ ((ok && p (at + i)) && everyAt p 1 (n - (i + 1)) (at + (i + 1)))
+    unfolding everyAt
+    places-turn h =
+        let e : n - i ≡ suc (n - (i + 1)) = omega arith in
+        let f : at + i + 1 ≡ at + (i + 1) = omega arith in
+        inv ∙ rw (e, ← f) (sym (and-assoc ok (p (at + i)) (everyAt p 1 (n - (i + 1)) (at + i + 1))))
+
+    pub places-end : n ≤ i → w ≡ ok
+    unfolding everyAt
+    places-end h =
+        let e : n - i ≡ 0 = omega arith in
+        inv ∙ rw e (and-true ok)
+
+-- ---- zeros
 
 agree : (a b : Bool) → (a ≡ true → b ≡ true) → (b ≡ true → a ≡ true) → a ≡ b
 agree true b f g = sym (f refl)
@@ -41,11 +84,6 @@ module _ (l : List ℕ) where
       ap (λ (v : List ℕ). standsAt v l at) (sym (replicate-append-replicate {A = ℕ} m n 0))
       ∙ standsAt-append (replicate m 0) (replicate n 0) l at
       ∙ rw (length-replicate {A = ℕ} m 0)
-
-  shared : (a b c : Bool) → ((a && b) && (b && c)) ≡ (a && (b && c))
-  shared true true c = refl
-  shared true false c = refl
-  shared false b c = refl
 
   -- two pieces that share b octets: the first has a more, the second c more
   zeros-shared : (a b c at to : ℕ) → at + a ≡ to → (zeros (a + b) at && zeros (b + c) to) ≡ zeros (a + (b + c)) at
@@ -94,6 +132,3 @@ module _ (l : List ℕ) where
     pub zeros-none : (n : ℕ) → (getD l at 0 ≡ 0 → ⊥) → false ≡ zeros (suc n) at
     unfolding standsAt
     zeros-none n f = sym (rw (ne-eqb 0 (getD l at 0) (λ e. f (sym e))))
-
-    pub mechanism-pieces : (zeros 16 at && zeros 16 (at + 6)) ≡ zeros mechanismSize at
-    mechanism-pieces = zeros-shared 6 10 6 at (at + 6) refl
