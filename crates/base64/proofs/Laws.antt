@@ -19,6 +19,8 @@ use Rattle.base64.proofs.Grammar.{Text, none, two-letters, three-letter
 -- length is 4 times n/3 rounded up
 pub use Rattle.base64.proofs.RoundTrip.{valid-encode, octets-encode, encode-octets}
 pub use Rattle.base64.proofs.Quads.{length-encode}
+-- a text that is base64 may be decoded without a look at its form
+pub use Rattle.base64.proofs.Turns.{unchecked-octets, unchecked-decoded}
 
 -- what a text decodes to are octets
 pub octets-octets : (t : List ℕ) → Octets (octets t)

@@ -2,17 +2,19 @@
 use mathlib.Core.Path.{_≡_, refl, sym, _∙_, ap}
 use mathlib.Core.Bool.{true, false, cond, false≢true}
 use mathlib.Core.List.{List, [], _∷_, _++_}
-use Prim.Native.Nat.{ℕ, _+_, _-_, _<_, _≤_}
+use Prim.Native.Nat.{ℕ, zero, suc, _+_, _*_, _-_, _/_, _%_, _<_, _≤_}
 use native.Mathlib.Nat.{add-zero, not-suc-le-zero}
+use native.Mathlib.Numerals.{add-one, add-two, add-three}
 use native.Mathlib.Omega.{arith}
+use borrow.Author.Tests.{le-leb, lt-leb}
 use lib.ListN.{length, drop, length-drop, length-append, drop-of-length-le}
 use lib.Seq.{drop-cons, sets}
 use Rattle.octets.specs.declared.Measured.{Measured}
 use Rattle.octets.proofs.Answers.{resumed, resumed-zero}
-use Rattle.octets.proofs.Lists.{drop-four, sets-append}
+use Rattle.octets.proofs.Lists.{drop-four, store-part}
 use Rattle.octets.specs.Lists.{isEmpty}
-use Rattle.base64.specs.Base64.{value, letters, octetsOf, follows, valid, octets, measured}
-use Rattle.base64.specs.Private.{groupAt, lettersAt, last}
+use Rattle.base64.specs.Base64.{value, letters, octetsOf, groupOf, follows, valid, octets, unchecked, measured, decodedInto, uncheckedInto}
+use Rattle.base64.specs.Private.{groupAt, lettersAt, threeAt, last}
 use Rattle.base64.specs.declared.Group.{Group}
 use Rattle.base64.specs.declared.Group.the-variants.{One, Two, Three, Bad}
 use Rattle.base64.proofs.Groups.{as-three, letters-are, Cases, is-three, cases}
@@ -50,10 +52,6 @@ module _ (t : List ℕ) (i : ℕ) (h : i + 4 ≤ length t) where
   pub turn : (n : ℕ) → from n (drop i t) ≡ after (groupAt t i) n (drop (i + 4) t)
   unfolding valid octets
   turn n = rw (drop-four t i h) (split (groupAt t i) n (drop (i + 4) t))
-
-  octets-turn : octets (drop i t) ≡ octetsOf (groupAt t i) ++ octets (drop (i + 4) t)
-  unfolding octets
-  octets-turn = rw (drop-four t i h)
 
 -- the last group
 last-after : (n : ℕ) (g : Group) → last n g ≡ after g n []
@@ -109,34 +107,99 @@ module _ (t : List ℕ) (i : ℕ) (h : i + 4 < length t) where
   pub went-on : (n : ℕ) → from n (drop i t) ≡ measured t → lettersAt t i ≡ true → from (n + 3) (drop (i + 4) t) ≡ measured t
   went-on n inv e = ap (λ (g : Group). after g n (drop (i + 4) t)) (as-three _ _ _ _ refl refl refl refl e) ∙ sym (turn t i (omega arith) n) ∙ inv
 
-  -- in a text that is base64 a group that more text follows is four letters
-  pub goes-on : valid (drop i t) ≡ true → (lettersAt t i ≡ true) × (valid (drop (i + 4) t) ≡ true)
-  unfolding valid
-  goes-on e =
-      only _ _ _ _ (groupAt t i) (drop (i + 4) t) (cases _ _ _ _) (empty-not t (i + 4) h)
-      (rw (drop-four t i (omega arith)) at e)
+-- ---- a text whose form is not looked at
 
--- a turn that writes: the group g stands at i, with n octets written before it
 pub sized : (g h : Group) → g ≡ h → length (octetsOf g) ≡ length (octetsOf h)
 sized g h e = ap (λ (x : Group). length (octetsOf x)) e
 
-module _ (t : List ℕ) (i n : ℕ) (g : Group) (e : g ≡ groupAt t i) (h : i + 4 ≤ length t) where
-  octets-here : octets (drop i t) ≡ octetsOf g ++ octets (drop (i + 4) t)
-  octets-here = octets-turn t i h ∙ ap (λ (x : Group). octetsOf x ++ octets (drop (i + 4) t)) (sym e)
+-- what its first group adds, where more follows and where it is the last
+pub unchecked-on : (t : List ℕ) (i : ℕ) → i + 4 < length t → unchecked (drop i t) ≡ octetsOf (threeAt t i) ++ unchecked (drop (i + 4) t)
+unfolding unchecked
+unchecked-on t i h = rw (drop-four t i (omega arith), empty-not t (i + 4) h)
 
-  pub counted : n + length (octetsOf g) + length (octets (drop (i + 4) t)) ≡ n + length (octets (drop i t))
-  counted = rw octets-here (omega (arith, length-append (octetsOf g) (octets (drop (i + 4) t))))
+pub unchecked-end : (t : List ℕ) (i : ℕ) → i + 4 ≡ length t → unchecked (drop i t) ≡ octetsOf (groupAt t i) ++ unchecked (drop (i + 4) t)
+unfolding unchecked
+unchecked-end t i h = rw (drop-four t i (omega arith), drop-of-length-le t {i = i + 4} (omega arith))
 
-  pub filled : (o w : List ℕ) → sets o n (octets (drop i t)) ≡ w → sets (sets o n (octetsOf g)) (n + length (octetsOf g)) (octets (drop (i + 4) t)) ≡ w
-  filled o w inv = sym (sets-append o n (octetsOf g) (octets (drop (i + 4) t))) ∙ ap (λ (l : List ℕ). sets o n l) (sym octets-here) ∙ inv
+short-unchecked : (r : List ℕ) → length r < 4 → unchecked r ≡ []
+unfolding unchecked
+short-unchecked [] k = refl
+short-unchecked (a ∷ []) k = refl
+short-unchecked (a ∷ b ∷ []) k = refl
+short-unchecked (a ∷ b ∷ c ∷ []) k = refl
+short-unchecked (a ∷ b ∷ c ∷ d ∷ r) k = absurd (omega arith)
 
-short-octets : (r : List ℕ) → length r < 4 → octets r ≡ []
-unfolding octets
-short-octets [] k = refl
-short-octets (a ∷ []) k = refl
-short-octets (a ∷ b ∷ []) k = refl
-short-octets (a ∷ b ∷ c ∷ []) k = refl
-short-octets (a ∷ b ∷ c ∷ d ∷ r) k = absurd (omega arith)
+-- a turn that writes: the group g stands at i, is h there, and n octets are written before it
+module _ (t : List ℕ) (i n : ℕ) (g h : Group) (e : g ≡ h) (k : unchecked (drop i t) ≡ octetsOf h ++ unchecked (drop (i + 4) t)) where
+  here : unchecked (drop i t) ≡ octetsOf g ++ unchecked (drop (i + 4) t)
+  here = k ∙ ap (λ (x : Group). octetsOf x ++ unchecked (drop (i + 4) t)) (sym e)
 
-pub all-filled : (t : List ℕ) (i n : ℕ) (o w : List ℕ) → sets o n (octets (drop i t)) ≡ w → length t < i + 4 → o ≡ w
-all-filled t i n o w inv h = rw (short-octets (drop i t) (simp length-drop (omega arith))) at inv
+  pub counted : n + length (octetsOf g) + length (unchecked (drop (i + 4) t)) ≡ n + length (unchecked (drop i t))
+  counted = rw here (omega (arith, length-append (octetsOf g) (unchecked (drop (i + 4) t))))
+
+  pub filled : (o w : List ℕ) → sets o n (unchecked (drop i t)) ≡ w → sets (sets o n (octetsOf g)) (n + length (octetsOf g)) (unchecked (drop (i + 4) t)) ≡ w
+  filled o w inv = store-part o w (unchecked (drop i t)) (octetsOf g) (unchecked (drop (i + 4) t)) n inv here
+
+pub all-filled : (t : List ℕ) (i n : ℕ) (o w : List ℕ) → sets o n (unchecked (drop i t)) ≡ w → length t < i + 4 → o ≡ w
+all-filled t i n o w inv h = rw (short-unchecked (drop i t) (simp length-drop (omega arith))) at inv
+
+-- how many octets they are: of a text that is cut short, and of one whose last group stands at i
+pub length-short : (t : List ℕ) → length t < 4 → 0 ≡ length (unchecked t)
+length-short t h = rw (short-unchecked t h)
+
+pub length-cut : (t : List ℕ) → 0 < length t % 4 → length t / 4 * 3 ≡ length (unchecked t)
+unfolding unchecked
+length-cut [] h = refl
+length-cut (a ∷ []) h = refl
+length-cut (a ∷ b ∷ []) h = refl
+length-cut (a ∷ b ∷ c ∷ []) h = refl
+length-cut (a ∷ b ∷ c ∷ d ∷ []) h = absurd (omega arith)
+length-cut (a ∷ b ∷ c ∷ d ∷ e ∷ r) h = omega (arith, length-cut (e ∷ r) (omega arith))
+
+shifted : (a b c d : ℕ) (r : List ℕ) (j : ℕ) → groupAt (a ∷ b ∷ c ∷ d ∷ r) (suc (suc (suc (suc j)))) ≡ groupAt r j
+shifted a b c d r j = simp (add-one, add-two, add-three)
+
+pub length-whole : (t : List ℕ) (i : ℕ) → i + 4 ≡ length t → i % 4 ≡ 0 → i / 4 * 3 + length (octetsOf (groupAt t i)) ≡ length (unchecked t)
+unfolding unchecked
+length-whole [] i h z = absurd (omega arith)
+length-whole (a ∷ []) i h z = absurd (omega arith)
+length-whole (a ∷ b ∷ []) i h z = absurd (omega arith)
+length-whole (a ∷ b ∷ c ∷ []) i h z = absurd (omega arith)
+length-whole (a ∷ b ∷ c ∷ d ∷ []) zero h z = omega (arith, length-append (octetsOf (groupOf a b c d)) [])
+length-whole (a ∷ b ∷ c ∷ d ∷ []) (suc i) h z = absurd (omega arith)
+length-whole (a ∷ b ∷ c ∷ d ∷ e ∷ r) zero h z = absurd (omega arith)
+length-whole (a ∷ b ∷ c ∷ d ∷ e ∷ r) (suc zero) h z = absurd (omega arith)
+length-whole (a ∷ b ∷ c ∷ d ∷ e ∷ r) (suc (suc zero)) h z = absurd (omega arith)
+length-whole (a ∷ b ∷ c ∷ d ∷ e ∷ r) (suc (suc (suc zero))) h z = absurd (omega arith)
+length-whole (a ∷ b ∷ c ∷ d ∷ e ∷ r) (suc (suc (suc (suc j)))) h z =
+    omega (arith, sized _ _ (shifted a b c d (e ∷ r) j), length-whole (e ∷ r) j (omega arith) (omega arith))
+
+pub at-most-three : (g : Group) → length (octetsOf g) ≤ 3
+at-most-three (One x) = omega arith
+at-most-three (Two x y) = omega arith
+at-most-three (Three x y z) = omega arith
+at-most-three Bad = omega arith
+
+-- the buffer, where n octets fit and where they do not
+module _ (t o : List ℕ) (n : ℕ) (e : n ≡ length (unchecked t)) where
+  pub fitted : (o′ : List ℕ) → n ≤ length o → o′ ≡ sets o 0 (unchecked t) → o′ ≡ uncheckedInto t o
+  fitted o′ h f = rw (le-leb (0 + length (unchecked t)) (length o) (omega arith)) f
+
+  pub not-fitted : length o < n → o ≡ uncheckedInto t o
+  not-fitted h = rw (lt-leb (0 + length (unchecked t)) (length o) (omega arith))
+
+-- of a text that is base64 they are what it stands for
+pub unchecked-octets : (t : List ℕ) → valid t ≡ true → unchecked t ≡ octets t
+unfolding unchecked octets valid
+unchecked-octets [] h = refl
+unchecked-octets (a ∷ []) h = refl
+unchecked-octets (a ∷ b ∷ []) h = refl
+unchecked-octets (a ∷ b ∷ c ∷ []) h = refl
+unchecked-octets (a ∷ b ∷ c ∷ d ∷ []) h = refl
+unchecked-octets (a ∷ b ∷ c ∷ d ∷ e ∷ r) h =
+    let f = only a b c d (groupOf a b c d) (e ∷ r) (cases a b c d) refl h in
+    ap (λ (g : Group). octetsOf g ++ unchecked (e ∷ r)) (as-three a b c d refl refl refl refl (f .0))
+    ∙ ap (λ (l : List ℕ). octetsOf (groupOf a b c d) ++ l) (unchecked-octets (e ∷ r) (f .1))
+
+pub unchecked-decoded : (t o : List ℕ) → valid t ≡ true → uncheckedInto t o ≡ decodedInto t o
+unchecked-decoded t o h = rw (h, unchecked-octets t h)

@@ -7,6 +7,7 @@ use lib.ListN.{length, getD}
 use Rattle.octets.specs.Alphabet.{index}
 use Rattle.octets.specs.Lists.{isEmpty}
 use Rattle.octets.specs.Answers
+use Rattle.octets.specs.Answers.{written}
 use Rattle.octets.specs.declared.Measured.{Measured}
 use Rattle.octets.specs.declared.Decoded.{Decoded}
 use Rattle.octets.specs.declared.Encoded.{Encoded}
@@ -136,12 +137,21 @@ octets (a ∷ b ∷ []) = []
 octets (a ∷ b ∷ c ∷ []) = []
 octets (a ∷ b ∷ c ∷ d ∷ r) = octetsOf (groupOf a b c d) ++ octets r
 
+-- what is read of a text whose form is not looked at: a group that more text follows is three octets by the numbers of its four octets of text, 64 for
+-- one that is no letter; only the last group is told by its form. Of a text that is base64 they are its octets (`unchecked-octets`)
+unfoldable pub unchecked : List ℕ → List ℕ
+unchecked [] = []
+unchecked (a ∷ []) = []
+unchecked (a ∷ b ∷ []) = []
+unchecked (a ∷ b ∷ c ∷ []) = []
+unchecked (a ∷ b ∷ c ∷ d ∷ r) = octetsOf (cond (isEmpty r) (groupOf a b c d) (three (joined (value a) (value b) (value c) (value d)))) ++ unchecked r
+
 -- how many "=" close a text
 unfoldable pub closing : List ℕ → ℕ
 closing [] = 0
 closing (x ∷ l) = cond (eqb x pad && eqb (closing l) (length l)) (closing l + 1) (closing l)
 
--- the answers of measure, decode and encode, and the buffer that decode leaves
+-- the answers of measure, decode and encode, and the buffers that decode and decode_unchecked leave
 abbrev pub measured : List ℕ → Measured
 measured t = Answers.measured (valid t) (octets t)
 
@@ -150,6 +160,9 @@ decoded t m = Answers.decoded (valid t) (octets t) m
 
 abbrev pub decodedInto : List ℕ → List ℕ → List ℕ
 decodedInto t buffer = Answers.decodedInto (valid t) (octets t) buffer
+
+abbrev pub uncheckedInto : List ℕ → List ℕ → List ℕ
+uncheckedInto t buffer = written buffer 0 (unchecked t)
 
 abbrev pub encoded : List ℕ → ℕ → ℕ → Encoded
 encoded l m at = Answers.encoded (encode l) m at

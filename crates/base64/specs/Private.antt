@@ -5,7 +5,7 @@ use Prim.Native.Nat.{ℕ, _+_}
 use lib.ListN.{getD}
 use Rattle.octets.specs.Alphabet.{table}
 use Rattle.octets.specs.declared.Measured.{Measured}
-use Rattle.base64.specs.Base64.{value, letters, groupOf}
+use Rattle.base64.specs.Base64.{value, joined, letters, three, groupOf}
 use Rattle.base64.specs.declared.Group.{Group}
 use Rattle.base64.specs.declared.Group.the-variants.{One, Two, Three, Bad}
 
@@ -18,6 +18,10 @@ groupAt t i = groupOf (getD t i 0) (getD t (i + 1) 0) (getD t (i + 2) 0) (getD t
 
 abbrev pub lettersAt : List ℕ → ℕ → Bool
 lettersAt t i = letters (value (getD t i 0)) (value (getD t (i + 1) 0)) (value (getD t (i + 2) 0)) (value (getD t (i + 3) 0))
+
+-- what it is where its octets of text are taken for letters
+abbrev pub threeAt : List ℕ → ℕ → Group
+threeAt t i = three (joined (value (getD t i 0)) (value (getD t (i + 1) 0)) (value (getD t (i + 2) 0)) (value (getD t (i + 3) 0)))
 
 -- the measure of a text whose last group is g, with n octets before it
 abbrev pub last : ℕ → Group → Measured

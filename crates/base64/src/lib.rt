@@ -1,13 +1,12 @@
 // Base64, RFC 4648 section 4.
 ghost use mathlib.Core.Path.{_≡_};
-ghost use mathlib.Core.Bool.{true};
 ghost use mathlib.Core.List.{_∷_, []};
 ghost use Prim.Native.Nat.{_+_, _^_, _≤_, _<_};
 ghost use lib.ListN.{length};
 ghost use lib.Seq.{sets, slice};
 ghost use Rattle.octets.specs.Answers.{written};
-ghost use Rattle.base64.specs.Base64.{alphabet, letter, value, bits, quad1, quad2, quad3, encode, joined, letters, letters3, letters2, three, two, one, groupOf, octetsOf, valid, octets, measured, decoded, decodedInto, encoded};
-ghost use Rattle.base64.specs.Private.{values, groupAt, lettersAt, last};
+ghost use Rattle.base64.specs.Base64.{alphabet, letter, value, bits, quad1, quad2, quad3, encode, joined, letters, letters3, letters2, three, two, one, groupOf, octetsOf, unchecked, measured, decoded, decodedInto, uncheckedInto, encoded};
+ghost use Rattle.base64.specs.Private.{values, groupAt, lettersAt, threeAt, last};
 
 pub mod reader;
 
@@ -63,6 +62,17 @@ pub fn decode_part(line: &[u8], from: usize, to: usize, out: &mut [u8]) -> Decod
     ensures { λ r. ⌜ (r ≡ decoded (slice from to (now (line .entry))) (length (now (out .entry)))) × (now (out .exit) ≡ decodedInto (slice from to (now (line .entry))) (now (out .entry))) ⌝ }
 {
     reader::decode_at(octets::part(line, 0, to), from, out)
+}
+
+// Decodes a text that was measured before, and is base64, to the start of out: in one walk, which does not look at its form again. Of any other text it
+// writes `unchecked`, which stands for nothing. Where the octets do not fit, out is left as it is.
+pub fn decode_unchecked(text: &[u8], out: &mut [u8])
+    ensures { λ _. ⌜ now (out .exit) ≡ uncheckedInto (now (text .entry)) (now (out .entry)) ⌝ }
+{
+    let k = values();
+    if unchecked_length(&k, text) <= out.len() {
+        fill(&k, text, out);
+    }
 }
 
 // Writes the text of some octets into out from index at on. Where it does not fit, out is left as it is.
@@ -191,10 +201,10 @@ fn letters_at(k: &[u8; 256], text: &[u8], i: usize) -> bool
     )
 }
 
-// The group at index i, which is four letters.
+// The group at index i, whose octets of text are taken for letters.
 fn three_at(k: &[u8; 256], text: &[u8], i: usize) -> Group
-    requires { ⌜ (i + 4 ≤ length (now text)) × (now k ≡ values) × (lettersAt (now text) i ≡ true) ⌝ }
-    ensures { λ r. ⌜ r ≡ groupAt (now (text .entry)) i ⌝ }
+    requires { ⌜ (i + 4 ≤ length (now text)) × (now k ≡ values) ⌝ }
+    ensures { λ r. ⌜ r ≡ threeAt (now (text .entry)) i ⌝ }
 {
     three(joined(
         value(k, text[i]),
@@ -269,10 +279,38 @@ fn put(out: &mut [u8], n: usize, g: Group) -> usize
     }
 }
 
-// Writes the octets of a text to the start of out.
+// How many octets a group is.
+fn count(g: Group) -> usize
+    ensures { λ r. ⌜ r ≡ length (octetsOf g) ⌝ }
+{
+    match g {
+        Group::Three(_, _, _) => 3,
+        Group::Two(_, _) => 2,
+        Group::One(_) => 1,
+        Group::Bad => 0,
+    }
+}
+
+// How many octets fill writes: three for a group, but where the text ends with a group as many as that one is.
+fn unchecked_length(k: &[u8; 256], text: &[u8]) -> usize
+    requires { ⌜ now k ≡ values ⌝ }
+    ensures { λ r. ⌜ r ≡ length (unchecked (now (text .entry))) ⌝ }
+{
+    let size = text.len();
+    if size < 4 {
+        return 0;
+    }
+    if size % 4 != 0 {
+        return size / 4 * 3;
+    }
+    let before = (size - 4) / 4 * 3;
+    before + count(group_at(k, text, size - 4))
+}
+
+// Writes the octets of a text whose form is not looked at to the start of out.
 fn fill(k: &[u8; 256], text: &[u8], out: &mut [u8])
-    requires { ⌜ (valid (now text) ≡ true) × (length (octets (now text)) ≤ length (now out)) × (now k ≡ values) ⌝ }
-    ensures { λ _. ⌜ now (out .exit) ≡ sets (now (out .entry)) 0 (octets (now (text .entry))) ⌝ }
+    requires { ⌜ (length (unchecked (now text)) ≤ length (now out)) × (now k ≡ values) ⌝ }
+    ensures { λ _. ⌜ now (out .exit) ≡ sets (now (out .entry)) 0 (unchecked (now (text .entry))) ⌝ }
 {
     let size = text.len();
     let mut n: usize = 0;

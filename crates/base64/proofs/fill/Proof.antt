@@ -1,42 +1,56 @@
 use mathlib.Core.Path.{_≡_, _∙_}
-use mathlib.Core.Bool.{true}
 use Prim.Native.Nat.{_+_, _-_, _≤_}
 use native.Mathlib.Omega.{arith}
 use lib.ListN.{length, drop}
 use lib.Seq.{sets}
-use Rattle.base64.specs.Base64.{octets, valid}
-use Rattle.base64.proofs.Turns.{counted, filled, all-filled, goes-on}
+use Rattle.base64.specs.Base64.{unchecked}
+use Rattle.base64.proofs.Turns.{counted, filled, all-filled, unchecked-on, unchecked-end}
 use borrow.Author.Needs.{needs}
 use Rattle.base64.proofs.fill.Statement.{statement}
 use Rattle.base64.proofs.fill.Tie as tie
 
 abbrev Inv-loop : tie.InvT-loop
 Inv-loop k text out₀ size n₀ i₀ out n i =
-    (i ≤ length text) × (length out ≡ length out₀) × (n + length (octets (drop i text)) ≡ length (octets text)) × (sets out n (octets (drop i text)) ≡ sets out₀ 0 (octets text)) × (valid (drop i text) ≡ true)
+    (i ≤ length text) × (length out ≡ length out₀) × (n + length (unchecked (drop i text)) ≡ length (unchecked text)) × (sets out n (unchecked (drop i text)) ≡ sets out₀ 0 (unchecked text))
 
 abbrev μ-loop : tie.MeasureT-loop
 μ-loop k text out₀ size n₀ i₀ out n i = length text - i
 
+put-requires : tie.Need-put-requires Inv-loop μ-loop
+put-requires c κs =
+    let at-three = c .before in
+    let l = at-three .before .before .loop in
+    let t = at-three .before .before .before .before .before .args .text .now in
+    omega (arith, counted t (l .i) (l .n) _ _ (at-three .three-at .ensures) (unchecked-on t (l .i) (omega arith)))
+
 loop-again : tie.Need-loop-again Inv-loop μ-loop
 loop-again c =
-    let p = c .before .before .put in
-    let l = c .before .before .before .before .before .before .loop in
-    let g = c .before .before .before .before .three-at in
-    let t = c .before .before .before .before .before .before .before .before .before .args .text .now in (
+    let at-put = c .before .before in
+    let at-three = at-put .before .before in
+    let l = at-three .before .before .loop in
+    let t = at-three .before .before .before .before .before .args .text .now in
+    let on = unchecked-on t (l .i) (omega arith) in (
       search needs,
       search needs,
-      omega (arith, counted t (l .i) (l .n) _ (g .ensures) (omega arith)),
-      rw (p .ensures .0, p .ensures .1) (filled t (l .i) (l .n) _ (g .ensures) (omega arith) _ _ (l .inv .3)),
-      goes-on t (l .i) (omega arith) (l .inv .4) .1,
+      omega (arith, counted t (l .i) (l .n) _ _ (at-three .three-at .ensures) on),
+      rw (at-put .put .ensures .0, at-put .put .ensures .1) (filled t (l .i) (l .n) _ _ (at-three .three-at .ensures) on _ _ (l .inv .3)),
     )
+
+put-requires-2 : tie.Need-put-requires-2 Inv-loop μ-loop
+put-requires-2 c κs =
+    let at-group = c .before in
+    let l = at-group .before .before .before .loop in
+    let t = at-group .before .before .before .before .before .before .args .text .now in
+    omega (arith, counted t (l .i) (l .n) _ _ (at-group .group-at .ensures) (unchecked-end t (l .i) (omega arith)))
 
 returns : tie.Need-returns Inv-loop μ-loop
 returns c =
-    let p = c .before .before .put2 in
-    let l = c .before .before .before .before .before .before .before .loop in
-    let g = c .before .before .before .before .group-at in
-    let t = c .before .before .before .before .before .before .before .before .before .before .args .text .now in
-    p .ensures .1 ∙ all-filled t (l .i + 4) _ _ _ (filled t (l .i) (l .n) _ (g .ensures) (omega arith) _ _ (l .inv .3)) (omega arith)
+    let at-put = c .before .before in
+    let at-group = at-put .before .before in
+    let l = at-group .before .before .before .loop in
+    let t = at-group .before .before .before .before .before .before .args .text .now in
+    at-put .put2 .ensures .1
+    ∙ all-filled t (l .i + 4) _ _ _ (filled t (l .i) (l .n) _ _ (at-group .group-at .ensures) (unchecked-end t (l .i) (omega arith)) _ _ (l .inv .3)) (omega arith)
 
 pub fill-spec : {M : Type 1} → statement M
 fill-spec =
@@ -46,14 +60,14 @@ fill-spec =
     μ-loop
     (λ c. search needs)
     (λ c. search needs)
-    (λ c κs. (search needs, search needs, goes-on (c .before .before .before .before .args .text .now) (c .before .loop .i) (omega arith) (c .before .loop .inv .4) .0))
-    (λ c κs. omega (arith, counted (c .before .before .before .before .before .before .args .text .now) (c .before .before .before .loop .i) (c .before .before .before .loop .n) _ (c .before .three-at .ensures) (omega arith)))
+    (λ c κs. search needs)
+    put-requires
     (λ c. search needs)
     (λ c. search needs)
     loop-again
     (λ c. search needs)
     (λ c κs. search needs)
-    (λ c κs. omega (arith, counted (c .before .before .before .before .before .before .before .args .text .now) (c .before .before .before .before .loop .i) (c .before .before .before .before .loop .n) _ (c .before .group-at .ensures) (omega arith)))
+    put-requires-2
     (λ c. search needs)
     returns
     (λ c. search needs)
