@@ -2,7 +2,7 @@
 ghost use mathlib.Core.Path.{_≡_};
 ghost use Prim.Native.Nat.{_+_, _<_};
 ghost use lib.ListN.{length, drop};
-ghost use Rattle.base64.specs.Base64.{decoded, decodedInto};
+ghost use Rattle.base64.specs.Base64.{decoded, decodedInto, uncheckedInto};
 ghost use Rattle.lines.specs.Mechanism.{padded};
 ghost use Rattle.lines.specs.Auth.{auth, initial, initialText, nameText};
 use crate::mechanism::LONGEST_MECHANISM;
@@ -88,5 +88,18 @@ pub fn decode_initial(line: &[u8], found: Auth, out: &mut [u8]) -> Decoded
         Auth::Malformed => base64::decode_part(line, 0, 0, out),
         Auth::Alone { .. } => base64::decode_part(line, 0, 0, out),
         Auth::Initial { from, .. } => base64::reader::decode_at(line, from, out),
+    }
+}
+
+// The same where the reading is this line's own, so that the initial response was measured and is base64: in one walk, which does not look at its form.
+pub fn decode_initial_unchecked(line: &[u8], found: Auth, out: &mut [u8])
+    ensures { λ _. ⌜ now (out .exit) ≡ uncheckedInto (initialText found (now (line .entry))) (now (out .entry)) ⌝ }
+{
+    match found {
+        Auth::Malformed => {}
+        Auth::Alone { .. } => {}
+        Auth::Initial { from, .. } => {
+            base64::decode_unchecked(octets::part(line, from, line.len()), out);
+        }
     }
 }
