@@ -1,8 +1,9 @@
 // One connection's session: a step takes the session and one event, and hands it back as the next session with its answer.
 //
 // Whoever keeps a session reads a line with it (`read`), looks up the mechanism that the view names (`View::mechanism`), and steps (`line`).
-// Then it decodes what the line hands on (`View::decode_response` for a query, `View::decode_address` for a MAIL), or writes what the client
-// hears (`Answer::say`). A verdict is a step of its own (`verdict`), and so is the end of a transaction (`mail_ended`).
+// Then it decodes what the line hands on (`View::decode_response_unchecked` for a query, whose response the reading found to be base64, or
+// `View::decode_response`, which looks again; `View::decode_address` for a MAIL), or writes what the client hears (`Answer::say`). A verdict is a
+// step of its own (`verdict`), and so is the end of a transaction (`mail_ended`).
 ghost use mathlib.Core.Path.{_≡_};
 ghost use lib.ListN.{length};
 ghost use Rattle.octets.specs.Answers.{written, encoded};
