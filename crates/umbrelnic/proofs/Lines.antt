@@ -10,13 +10,15 @@ use lib.Dec.{eqb, leb}
 use lib.ListN.{length}
 use Rattle.octets.specs.Answers.{written}
 use Rattle.octets.proofs.Cases.{both}
+use Rattle.base64.specs.Base64 as Base64
 use Rattle.lines.specs.Mechanism.{padded}
 use Rattle.profile.specs.declared.numbers.Refusal.{Refusal}
 use Rattle.profile.specs.declared.numbers.Refusal.the-variants as Refusals
 use Rattle.session.specs.Answer.{heard, numbers}
 use Rattle.session.specs.Limits.{replyBuffer, unissued}
 use Rattle.session.specs.Line.{afterLine}
-use Rattle.session.specs.Octets.{mechanismText, queryOctets, relayOctets}
+use Rattle.session.specs.Measures.{Measures}
+use Rattle.session.specs.Octets.{mechanismText, responseText, queryOctets, relayOctets}
 use Rattle.session.specs.Standing.{isRefused}
 use Rattle.session.specs.View.{view}
 use Rattle.session.specs.declared.Stepped.{Stepped}
@@ -66,6 +68,15 @@ asked t (Answers.Query u b n) m e = ap (λ (k : ℕ). eqb k unissued) (sym (m .0
 asked t (Answers.Reply r) m e = absurd (false≢true e)
 asked t Answers.EmptyChallenge m e = absurd (false≢true e)
 asked t Answers.Challenge m e = absurd (false≢true e)
+
+-- and its response is base64
+responds : (v : View) (x : List ℕ) (t : ℕ) (a : Answer) → Measures v x t a → isQuery a ≡ true → Base64.valid (responseText v x) ≡ true
+responds v x t (Answers.Refused r) m e = absurd (false≢true e)
+responds v x t (Answers.Forward i n) m e = absurd (false≢true e)
+responds v x t (Answers.Query u b n) m e = m .valid
+responds v x t (Answers.Reply r) m e = absurd (false≢true e)
+responds v x t Answers.EmptyChallenge m e = absurd (false≢true e)
+responds v x t Answers.Challenge m e = absurd (false≢true e)
 
 -- nothing is relayed where a step refuses
 unrelayed : (a : Answer) (x : List ℕ) → isRefused a ≡ true → cond (relaysAddress a) x [] ≡ []
@@ -130,6 +141,12 @@ module _ (l : Image) (n : ℕ) (x reply answer : List ℕ) (t : isTaken l ≡ tr
     pub line-issued : isQuery given ≡ true → eqb (headerRead l .ticket) unissued ≡ false
     line-issued = asked (headerRead l .ticket) given (line-issues x (connectionRead l i .session) (offered (listed (mechanismsRead l)) (padded (mechanismText (viewed l i x) x))) (headerRead l .ticket))
 
+    measures : Measures (viewed l i x) x (headerRead l .ticket) given
+    measures = line-measures x (connectionRead l i .session) (offered (listed (mechanismsRead l)) (padded (mechanismText (viewed l i x) x))) (headerRead l .ticket)
+
+    pub line-responds : isQuery given ≡ true → Base64.valid (responseText (viewed l i x) x) ≡ true
+    line-responds = responds (viewed l i x) x (headerRead l .ticket) given measures
+
     pub line-room : length (heard (connectionRead l i .session .profile) [] given) ≤ length reply
     line-room = let f = room replyBuffer _ (length reply) (length answer) long .0 in omega (arith, line-heard-fits (connectionRead l i .session .profile) given)
 
@@ -146,7 +163,6 @@ module _ (l : Image) (n : ℕ) (x reply answer : List ℕ) (t : isTaken l ≡ tr
           heard = rw comes (ap (λ (h : List ℕ). written reply 0 h) (sym (parts .hears)));
           handed =
               rw comes
-              (hands (viewed l i x) x answer (headerRead l .ticket) given
-              (line-measures x (connectionRead l i .session) (offered (listed (mechanismsRead l)) (padded (mechanismText (viewed l i x) x))) (headerRead l .ticket))
+              (hands (viewed l i x) x answer (headerRead l .ticket) given measures
               ∙ ap (λ (h : List ℕ). written answer 0 h) (sym hands-over));
         }

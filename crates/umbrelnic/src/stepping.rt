@@ -6,11 +6,12 @@ ghost use Prim.Native.Nat.{_≤_};
 ghost use lib.Dec.{eqb, leb};
 ghost use lib.ListN.{length};
 ghost use Rattle.octets.specs.Answers.{written};
+ghost use Rattle.base64.specs.Base64 as Base64;
 ghost use Rattle.lines.specs.Mechanism.{padded};
 ghost use Rattle.profile.specs.Numbers.{verdictOf};
 ghost use Rattle.session.specs.Answer.{heard, numbers};
 ghost use Rattle.session.specs.Limits.{replyBuffer, answerBuffer, unissued};
-ghost use Rattle.session.specs.Octets.{mechanismText};
+ghost use Rattle.session.specs.Octets.{mechanismText, responseText};
 ghost use Rattle.session.specs.Standing.{isRefused};
 ghost use Rattle.server.specs.Line.{isQuery, isAddress, relaysAddress};
 ghost use Rattle.server.specs.Mechanisms.{listed, offered};
@@ -143,12 +144,14 @@ fn issue(image: &mut [u8], header: Header, answer: Answer)
 
 // ---- the buffers
 
-// Decodes what a line hands over to the start of a buffer: a query's response, or an address to relay.
+// Decodes what a line hands over to the start of a buffer: a query's response, or an address to relay. That a query's response is base64 was seen when
+// the line was read, so it is not looked at again.
 fn hand_over(answer: Answer, view: View, line: &[u8], out: &mut [u8])
+    requires { ⌜ (isQuery answer ≡ true → Base64.valid (responseText view (now line)) ≡ true) ⌝ }
     ensures { λ _. ⌜ now (out .exit) ≡ handedIn answer view (now (line .entry)) (now (out .entry)) ⌝ }
 {
     if is_query(answer) {
-        view.decode_response(line, out);
+        view.decode_response_unchecked(line, out);
         return;
     }
     if relays_address(answer) {
