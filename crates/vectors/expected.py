@@ -20,6 +20,21 @@ def base64_decoded(text):
     return octets if base64.b64encode(octets) == text else None
 
 
+LETTERS = b"ABCDEFGHIJKLMNOPQRSTUVWXYZabcdefghijklmnopqrstuvwxyz0123456789+/"
+
+
+def base64_unchecked(text):
+    """A group that more text follows by its letters' numbers, 64 for any other octet; the last group by its form."""
+    octets = b""
+    while len(text) > 4:
+        bits = 0
+        for x in text[:4]:
+            bits = bits * 64 + (LETTERS.index(x) if x in LETTERS else 64)
+        octets += (bits % 2**24).to_bytes(3, "big")
+        text = text[4:]
+    return octets + ((base64_decoded(text) or b"") if len(text) == 4 else b"")
+
+
 XCHARS = [*range(0x21, 0x2B), *range(0x2C, 0x3D), *range(0x3E, 0x7F)]
 
 
@@ -88,6 +103,11 @@ def decode_into(form, text, room):
     print(f"{form} {quoted(text)} into {room}: {decoded(octets, room)}, {quoted(lent + b'.' * (8 - room))}")
 
 
+def unchecked_into(text, room):
+    lent = filled(b"." * room, base64_unchecked(text))
+    print(f"base64 {quoted(text)} unchecked into {room}, {quoted(lent + b'.' * (8 - room))}")
+
+
 def encode_into(form, octets, room, at):
     text = FORMS[form][1](octets)
     row, answer = b"." * 8, "short"
@@ -122,6 +142,12 @@ def base64_cases():
     read_each("base64", b"Zh==|Zm9=|=AAA|=|====|A===|AA=A|AAA=BBB|AAA=BBBB|AA==AAAA|AAAAA|AAAAAA|Zm9|Zm9v |Zm9v\r\n|Zm\x009|Zm9-|Zm9_|Zm9\xff|*")
     for text, room in ((b"Zm9v", 5), (b"Zm9v", 3), (b"Zm9v", 2), (b"Zh==", 5), (b"", 0)):
         decode_into("base64", text, room)
+    for text, room in ((b"", 8), (b"Zg==", 8), (b"Zm8=", 8), (b"Zm9v", 8), (b"Zm9vYg==", 8), (b"Zm9vYmE=", 8), (b"Zm9vYmFy", 8), (b"Zm9vYmFy", 6),
+                       (b"Zm9vYmFy", 5), (b"Zm9vYg==", 4), (b"Zm9vYg==", 3), (b"", 0)):
+        unchecked_into(text, room)
+    for text, room in ((b"Zh==", 8), (b"Zm9vZh==", 8), (b"Zm9=Zm9v", 8), (b"AA==AAAA", 8), (b"=AAA=AAA", 8), (b"AAAAA", 8), (b"Zm9vAAA", 8), (b"Zm9vAAA", 3),
+                       (b"Zm9vAAA", 2), (b"Zm9", 8), (b"====", 8), (b"========", 8), (b"Zm\x009Zm9v", 8), (b"\xff\xff\xff\xffZm9v", 8)):
+        unchecked_into(text, room)
     for octets, room, at in ((b"foo", 8, 2), (b"foo", 8, 4), (b"foo", 8, 5), (b"f", 4, 0), (b"", 4, 4), (b"", 4, 5), (b"foo", 4, LARGEST)):
         encode_into("base64", octets, room, at)
     for start, end in ((11, 15), (11, 99), (10, 15), (15, 15), (15, 11), (99, LARGEST)):

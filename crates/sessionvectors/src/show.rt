@@ -53,6 +53,11 @@ fn response(view: View, line: &[u8]) {
     put(b" ");
     let d = view.decode_response(line, &mut out);
     decoded(d, &out);
+    let mut unchecked = [0u8; 9213];
+    view.decode_response_unchecked(line, &mut unchecked);
+    if !octets::same(&out, &unchecked) {
+        put(b", unchecked others");
+    }
 }
 
 fn address(view: View, line: &[u8]) {

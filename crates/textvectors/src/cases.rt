@@ -1,7 +1,7 @@
 // RFC 4648 section 10, the examples of RFC 4954 and RFC 5034, and document 01's cases of base64 and xtext: rows with ";" between them. The first octet
 // of a row is its kind, and its text stands after that and a space: numbers, and then octets.
 // v a vector as RFC 4648 section 10 writes it; r texts that are read, with "|" between them; d how many octets are lent to decode the text into;
-// e how many are lent to encode the octets into, and from which index on; p from where and up to where a line is read;
+// u the same, of base64 whose form is not looked at; e how many are lent to encode the octets into, and from which index on; p from where and up to where a line is read;
 // t a text of four octets, with each other octet at each place; a all 256 octets, encoded into so many; l a text of so many letters.
 use crate::form::Form;
 use crate::rows;
@@ -39,6 +39,7 @@ fn case(f: Form, row: &[u8]) {
         b'v' => vector(text),
         b'r' => rows::read_each(f, text),
         b'd' => rows::decode_into(f, rest(text, 1), n),
+        b'u' => rows::decode_unchecked_into(rest(text, 1), n),
         b'e' => rows::encode_into(f, rest(text, 2), n, index(text, 1)),
         b'p' => rows::read_part(f, rest(text, 2), n, index(text, 1)),
         b't' => rows::taken(f, text),
@@ -66,6 +67,9 @@ fn base64() {
         cmpzMyBlYzNhNTlmZWQzOTVhYmExZWM2MzY3YzRmNGI0MWFjMA==|dGVzdAB0ZXN0AHRlc3Q=|QUIT;\
         r Zh==|Zm9=|=AAA|=|====|A===|AA=A|AAA=BBB|AAA=BBBB|AA==AAAA|AAAAA|AAAAAA|Zm9|Zm9v |Zm9v\r\n|Zm\x009|Zm9-|Zm9_|Zm9\xff|*;\
         d 5 Zm9v;d 3 Zm9v;d 2 Zm9v;d 5 Zh==;d 0 ;\
+        u 8 ;u 8 Zg==;u 8 Zm8=;u 8 Zm9v;u 8 Zm9vYg==;u 8 Zm9vYmE=;u 8 Zm9vYmFy;u 6 Zm9vYmFy;u 5 Zm9vYmFy;u 4 Zm9vYg==;u 3 Zm9vYg==;u 0 ;\
+        u 8 Zh==;u 8 Zm9vZh==;u 8 Zm9=Zm9v;u 8 AA==AAAA;u 8 =AAA=AAA;u 8 AAAAA;u 8 Zm9vAAA;u 3 Zm9vAAA;u 2 Zm9vAAA;u 8 Zm9;u 8 ====;u 8 ========;\
+        u 8 Zm\x009Zm9v;u 8 \xff\xff\xff\xffZm9v;\
         e 8 2 foo;e 8 4 foo;e 8 5 foo;e 4 0 f;e 4 4 ;e 4 5 ;e 4 18446744073709551615 foo;\
         p 11 15 AUTH PLAIN Zm9v;p 11 99 AUTH PLAIN Zm9v;p 10 15 AUTH PLAIN Zm9v;p 15 15 AUTH PLAIN Zm9v;p 15 11 AUTH PLAIN Zm9v;\
         p 99 18446744073709551615 AUTH PLAIN Zm9v;\

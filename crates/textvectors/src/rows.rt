@@ -107,6 +107,21 @@ fn decode_to(f: Form, text: &[u8], m: usize, dots: &mut [u8]) {
     }
 }
 
+// The same of base64 whose form is not looked at.
+pub(crate) fn decode_unchecked_into(text: &[u8], m: usize) {
+    let mut dots = *b"........";
+    heading(Form::Base64, b" ", text);
+    amount(b" unchecked into ", m);
+    decode_unchecked_to(text, m, &mut dots);
+    ending(&dots);
+}
+
+fn decode_unchecked_to(text: &[u8], m: usize, dots: &mut [u8]) {
+    if m <= dots.len() {
+        base64::decode_unchecked(text, &mut dots[..m]);
+    }
+}
+
 // A row of dots of which the first m were lent to encode octets into from an index on.
 pub(crate) fn encode_into(f: Form, bytes: &[u8], m: usize, at: usize) {
     let mut dots = *b"........";

@@ -44,6 +44,11 @@ fn initial_of(line: &[u8], a: Auth) {
     name_of(line, a);
     let d = lines::auth::decode_initial(line, a, &mut out);
     octets_of(d, &out);
+    let mut unchecked = [0u8; 64];
+    lines::auth::decode_initial_unchecked(line, a, &mut unchecked);
+    if !octets::same(&out, &unchecked) {
+        put(b", unchecked others");
+    }
 }
 
 // What an AUTH line has beside its numbers.
