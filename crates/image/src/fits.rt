@@ -7,7 +7,6 @@ ghost use lib.ListN.{length, getD, replicate};
 ghost use Rattle.codec.specs.Codec.{getNumber};
 ghost use Rattle.codec.specs.InPlace.{standsAt, everyAt};
 ghost use Rattle.session.specs.Limits.{mostChallenges, longestName};
-ghost use Rattle.session.specs.Verdict.{graphic};
 ghost use Rattle.server.specs.Limits.{mostConnections};
 ghost use Rattle.server.specs.WellFormed.{numberOf, ticketOf};
 ghost use Rattle.image.specs.Sizes.{phaseSize, sessionPhase, connectionSize, slotSize, serverSlots, imageSize};
@@ -35,6 +34,7 @@ use crate::unique::adds_number;
 use crate::unique::adds_ticket;
 use server::Header;
 use session::Session;
+use session::verdict::is_graphic;
 
 // The last octet of a header is a yes-or-no; its numbers may be any.
 pub(crate) fn header_fits(image: &[u8]) -> bool
@@ -45,13 +45,6 @@ pub(crate) fn header_fits(image: &[u8]) -> bool
 }
 
 // ---- a name
-
-// An octet of a name.
-fn is_graphic(x: u8) -> bool
-    ensures { λ r. ⌜ r ≡ graphic x ⌝ }
-{
-    (0x21 <= x) & (x <= 0x7E)
-}
 
 // Whether each of the 32 octets after the one at an index may come after the one before it in a name that is padded with NUL.
 fn runs(image: &[u8], at: usize) -> bool

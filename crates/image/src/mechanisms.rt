@@ -6,7 +6,7 @@ ghost use lib.ListN.{length};
 ghost use Rattle.octets.specs.Lists.{same};
 ghost use Rattle.codec.specs.Codec.{octet, getArray};
 ghost use Rattle.codec.specs.InPlace.{everyAt};
-ghost use Rattle.lines.specs.Mechanism.{mechChar, longestMechanism};
+ghost use Rattle.lines.specs.Mechanism.{longestMechanism};
 ghost use Rattle.server.specs.Limits.{mostMechanisms};
 ghost use Rattle.server.specs.WellFormed.{apart, sameName, mechanismWithin};
 ghost use Rattle.image.specs.InPlace.{mechanismOffset};
@@ -19,16 +19,10 @@ use crate::sizes::MECHANISM;
 use crate::sizes::MECHANISM_CLIENT_FIRST;
 use crate::sizes::MECHANISM_NEEDS_PROTECTION;
 use crate::sizes::SERVER_MECHANISMS;
+use lines::mechanism::is_mech_char;
 use server::MOST_MECHANISMS;
 
 // ---- one mechanism
-
-// Whether an octet may stand in a mechanism's name.
-fn is_mech_char(x: u8) -> bool
-    ensures { λ r. ⌜ r ≡ mechChar x ⌝ }
-{
-    (b'A' <= x) & (x <= b'Z') | (b'0' <= x) & (x <= b'9') | (x == b'-') | (x == b'_')
-}
 
 // Whether the octet at an index may stand there in a name that is padded with NUL, by what follows it: an octet of a name, or NUL before NUL.
 fn may_stand(image: &[u8], at: usize) -> bool

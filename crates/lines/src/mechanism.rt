@@ -1,14 +1,13 @@
 // Mechanism names: their form, and the twenty octets in which one is kept and compared.
 ghost use mathlib.Core.Path.{_≡_};
-ghost use mathlib.Core.Bool.{_&&_};
-ghost use Rattle.octets.specs.Lists.{same, before};
+ghost use Rattle.octets.specs.Lists.{same};
 ghost use Rattle.lines.specs.Mechanism.{mechChar, mechanism, padded};
 
 // A name has at most so many octets, and is kept in as many.
 pub const LONGEST_MECHANISM: usize = 20;
 
 // Whether an octet may stand in a mechanism's name.
-fn is_mech_char(x: u8) -> bool
+pub fn is_mech_char(x: u8) -> bool
     ensures { λ r. ⌜ r ≡ mechChar x ⌝ }
 {
     (b'A' <= x) & (x <= b'Z') | (b'0' <= x) & (x <= b'9') | (x == b'-') | (x == b'_')
@@ -41,19 +40,6 @@ pub fn name_of(name: &[u8]) -> [u8; LONGEST_MECHANISM]
     let mut kept = [0u8; LONGEST_MECHANISM];
     octets::write(octets::part(name, 0, LONGEST_MECHANISM), &mut kept, 0);
     kept
-}
-
-// Whether twenty octets are a name, padded with NUL: after the first, each is NUL or an octet of a name that comes after no NUL.
-pub fn is_padded_name(name: [u8; LONGEST_MECHANISM]) -> bool
-    ensures { λ r. ⌜ r ≡ (mechanism (before 0 name) && same name (padded (before 0 name))) ⌝ }
-{
-    let mut ok = is_mech_char(name[0]);
-    let mut i: usize = 1;
-    while i < LONGEST_MECHANISM {
-        ok = ok & ((name[i] == 0) | is_mech_char(name[i]) & (name[i - 1] != 0));
-        i += 1;
-    }
-    ok
 }
 
 // Whether two names are the same.

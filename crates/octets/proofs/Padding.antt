@@ -2,30 +2,13 @@
 use mathlib.Core.Path.{_≡_, refl, sym}
 use mathlib.Core.Bool.{Bool, true, false, not, cond, _&&_, _||_, and-assoc, and-true, and-false}
 use mathlib.Core.List.{List, [], _∷_, _++_}
-use Prim.Native.Nat.{ℕ, zero, suc, _+_, _-_, _<_, _≤_}
-use native.Mathlib.Numerals.{add-one}
+use Prim.Native.Nat.{ℕ, zero, suc, _≤_}
 use native.Mathlib.Omega.{arith}
 use borrow.Author.Tests.{eq-eqb, eqb-true, le-leb}
 use lib.Dec.{eqb, leb}
-use lib.ListN.{length, getD, drop, take, replicate, drop-of-length-le}
-use lib.Seq.{drop-cons}
+use lib.ListN.{length, getD, drop, take, replicate}
 use Rattle.octets.specs.Lists.{every, oneTo, same, before, paddedTo}
 use Rattle.octets.proofs.Words.{length-before}
-
--- a turn of the test that a list is NUL alone: b, whether the octets before index i are
-module _ (b : Bool) (l : List ℕ) (i : ℕ) where
-  pub blank-step : i < length l
-      → (b && eqb (getD l i 0) 0 && same (drop (i + 1) l) (replicate (length l - (i + 1)) 0)) ≡ (b && same (drop i l) (replicate (length l - i) 0))
-  unfolding same
-  blank-step h =
-      let e : length l - i ≡ suc (length l - (i + 1)) = omega arith in
-      rw (e, drop-cons l i 0 h, add-one) (and-assoc b _ _)
-
-  pub blank-end : length l ≤ i → (b && same (drop i l) (replicate (length l - i) 0)) ≡ b
-  unfolding same
-  blank-end h =
-      let e : length l - i ≡ 0 = omega arith in
-      rw (e, drop-of-length-le l {i = i} h) (and-true b)
 
 module _ (f : ℕ → Bool) where
   -- an octet that may come after y where what passes the test is padded with NUL; and a list of such
@@ -82,15 +65,3 @@ module _ (f : ℕ → Bool) where
           let v : leb (suc (length (before 0 l))) (suc (length l)) ≡ true = le-leb (suc (length (before 0 l))) (suc (length l)) (omega (arith, length-before 0 l)) in
           rw (u, v, eq-eqb x x refl, run-padded (suc (length l)) x l (omega arith) g)
           (sym (and-assoc (f x) (every f (before 0 l)) (same l (take (length l) (before 0 l ++ replicate (suc (length l)) 0)))))
-
-  -- a turn of the test: b, whether the octets before index i follow
-  pub run-step : (b : Bool) (l : List ℕ) (i : ℕ) → 1 ≤ i → i < length l
-      → (b && follows (getD l (i - 1) 0) (getD l i 0) && run (getD l (i + 1 - 1) 0) (drop (i + 1) l)) ≡ (b && run (getD l (i - 1) 0) (drop i l))
-  unfolding run
-  run-step b l i g h =
-      let e : i + 1 - 1 ≡ i = omega arith in
-      rw (e, drop-cons l i 0 h, add-one) (and-assoc b _ _)
-
-  pub run-end : (b : Bool) (y : ℕ) (l : List ℕ) (i : ℕ) → length l ≤ i → (b && run y (drop i l)) ≡ b
-  unfolding run
-  run-end b y l i h = rw (drop-of-length-le l {i = i} h) (and-true b)

@@ -1,7 +1,7 @@
 // What every reading and writing of octets shares: the part of a line that is read, and the answers.
 ghost use mathlib.Core.Path.{_≡_};
 ghost use Prim.Native.Nat.{_+_};
-ghost use lib.ListN.{length, drop, replicate};
+ghost use lib.ListN.{length, drop};
 ghost use lib.Seq.{slice};
 ghost use Rattle.octets.specs.Answers.{written, encoded};
 ghost use Rattle.octets.specs.Ascii.{capital, capitals};
@@ -72,19 +72,6 @@ pub fn same(a: &[u8], b: &[u8]) -> bool
         i += 1;
     }
     ok
-}
-
-// Whether octets are NUL alone.
-pub fn is_blank(bytes: &[u8]) -> bool
-    ensures { λ r. ⌜ r ≡ same (now (bytes .entry)) (replicate (length (now (bytes .entry))) 0) ⌝ }
-{
-    let mut blank = true;
-    let mut i: usize = 0;
-    while i < bytes.len() {
-        blank = blank & (bytes[i] == 0);
-        i += 1;
-    }
-    blank
 }
 
 // A small letter as its capital, any other octet as it is.

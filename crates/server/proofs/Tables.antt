@@ -1,19 +1,17 @@
 -- The table of mechanisms, record by record. Assumes nothing.
 use mathlib.Core.Path.{_≡_}
-use mathlib.Core.Bool.{Bool, true, false, not, _&&_}
+use mathlib.Core.Bool.{true, false}
 use mathlib.Core.List.{List, [], _∷_}
 use Prim.Native.Nat.{ℕ, _+_, _<_, _≤_}
 use native.Mathlib.Numerals.{add-one}
 use native.Mathlib.Omega.{arith}
-use borrow.Author.Tests.{le-leb}
 use lib.ListN.{length, getD, drop, length-take, drop-of-length-le}
 use lib.Seq.{drop-cons, getD-take}
-use Rattle.octets.specs.Lists.{every, same}
+use Rattle.octets.specs.Lists.{same}
 use Rattle.session.specs.declared.view.Offer.the-variants.{Absent, Present}
 use Rattle.server.specs.declared.Mechanism.{Mechanism}
 use Rattle.server.specs.declared.Mechanisms.{Mechanisms}
 use Rattle.server.specs.Mechanisms.{listed, offered}
-use Rattle.server.specs.WellFormed.{apart, sameName, mechanismWithin, mechanismsWithin}
 
 -- what stands where a table has no record
 abbrev pub unset : Mechanism
@@ -26,13 +24,6 @@ module _ (t : Mechanisms) (e : length (t .records) ≡ 8) where
 
   pub all-listed : 8 ≤ t .count → 8 ≡ length (listed t)
   all-listed h = simp length-take (omega arith)
-
-  pub listed-short : length (listed t) ≤ 8
-  listed-short = simp length-take (omega arith)
-
-  pub table-within : (every mechanismWithin (listed t) && apart sameName (listed t)) ≡ mechanismsWithin (listed t)
-  unfolding mechanismsWithin
-  table-within = rw (le-leb (length (listed t)) 8 listed-short)
 
 module _ (t : Mechanisms) (i : ℕ) where
   -- the record at an index, and the others from there on
@@ -58,32 +49,3 @@ module _ (t : Mechanisms) (i : ℕ) where
     pub offer-none : length (listed t) ≤ i → Absent ≡ offered (drop i (listed t)) n
     unfolding offered
     offer-none h = rw (none-left h)
-
-  -- a turn of a test of each
-  module _ (f : Mechanism → Bool) where
-    pub each-fails : i < length (listed t) → f (getD (t .records) i unset) ≡ false → false ≡ every f (drop i (listed t))
-    unfolding every
-    each-fails h e = rw (next h, e)
-
-    pub each-passes : i < length (listed t) → f (getD (t .records) i unset) ≡ true → every f (drop (i + 1) (listed t)) ≡ every f (drop i (listed t))
-    unfolding every
-    each-passes h e = rw (next h, e)
-
-    pub each-done : length (listed t) ≤ i → true ≡ every f (drop i (listed t))
-    unfolding every
-    each-done h = rw (none-left h)
-
-  -- a turn of the test that the names differ
-  pub name-again : i < length (listed t) → every (λ m. not (sameName (getD (t .records) i unset) m)) (drop (i + 1) (listed t)) ≡ false
-      → false ≡ apart sameName (drop i (listed t))
-  unfolding apart
-  name-again h e = rw (next h, e)
-
-  pub name-alone : i < length (listed t) → every (λ m. not (sameName (getD (t .records) i unset) m)) (drop (i + 1) (listed t)) ≡ true
-      → apart sameName (drop (i + 1) (listed t)) ≡ apart sameName (drop i (listed t))
-  unfolding apart
-  name-alone h e = rw (next h, e)
-
-  pub names-done : length (listed t) ≤ i → true ≡ apart sameName (drop i (listed t))
-  unfolding apart
-  names-done h = rw (none-left h)

@@ -6,7 +6,6 @@ ghost use Rattle.server.specs.Make.{made};
 use lines::mechanism::LONGEST_MECHANISM;
 use session::Session;
 
-mod slot;
 mod table;
 
 // A server has at most so many mechanisms.

@@ -1,18 +1,16 @@
 // The mechanisms of a server.
 ghost use mathlib.Core.Path.{_≡_};
-ghost use mathlib.Core.Bool.{false, not};
+ghost use mathlib.Core.Bool.{false};
 ghost use Prim.Native.Nat.{_≤_};
-ghost use lib.ListN.{length, drop, replicate};
-ghost use Rattle.octets.specs.Lists.{every, same};
+ghost use lib.ListN.{length, replicate};
+ghost use Rattle.octets.specs.Lists.{same};
 ghost use Rattle.lines.specs.Mechanism.{longestMechanism, padded};
 ghost use Rattle.server.specs.Limits.{mostMechanisms};
 ghost use Rattle.server.specs.Mechanisms.{listed, offered};
-ghost use Rattle.server.specs.WellFormed.{apart, sameName, mechanismWithin, mechanismsWithin};
 use crate::MOST_MECHANISMS;
 use crate::Mechanism;
 use crate::Mechanisms;
 use lines::mechanism::LONGEST_MECHANISM;
-use lines::mechanism::is_padded_name;
 use lines::mechanism::name_of;
 use lines::mechanism::same_name;
 use session::view::Offer;
@@ -35,14 +33,6 @@ impl Mechanism {
     {
         let kept = self.name;
         same_name(kept, name)
-    }
-
-    // Whether the name is of its form, padded with NUL.
-    pub fn is_well_formed(self) -> bool
-        ensures { λ r. ⌜ r ≡ mechanismWithin self ⌝ }
-    {
-        let name = self.name;
-        is_padded_name(name)
     }
 }
 
@@ -90,61 +80,5 @@ impl Mechanisms {
             i += 1;
         }
         Offer::Absent
-    }
-
-    // Whether each name is well formed.
-    fn are_named(self) -> bool
-        ensures { λ r. ⌜ r ≡ every mechanismWithin (listed self) ⌝ }
-    {
-        let end = self.len();
-        let mut i: usize = 0;
-        while i < end {
-            let m = self.records[i];
-            if !m.is_well_formed() {
-                return false;
-            }
-            i += 1;
-        }
-        true
-    }
-
-    // Whether no mechanism from an index on has the same name as this one.
-    fn are_other(self, m: Mechanism, from: usize) -> bool
-        ensures { λ r. ⌜ r ≡ every (λ n. not (sameName m n)) (drop from (listed self)) ⌝ }
-    {
-        let name = m.name;
-        let end = self.len();
-        let mut i = from;
-        while i < end {
-            let n = self.records[i];
-            let other = n.name;
-            if same_name(name, other) {
-                return false;
-            }
-            i += 1;
-        }
-        true
-    }
-
-    // Whether the names differ.
-    fn differ(self) -> bool
-        ensures { λ r. ⌜ r ≡ apart sameName (listed self) ⌝ }
-    {
-        let end = self.len();
-        let mut i: usize = 0;
-        while i < end {
-            let m = self.records[i];
-            if !self.are_other(m, i + 1) {
-                return false;
-            }
-            i += 1;
-        }
-        true
-    }
-
-    pub fn are_well_formed(self) -> bool
-        ensures { λ r. ⌜ r ≡ mechanismsWithin (listed self) ⌝ }
-    {
-        self.are_named() & self.differ()
     }
 }

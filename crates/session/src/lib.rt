@@ -28,9 +28,8 @@ mod line;
 mod mail_line;
 mod query;
 mod response;
-mod verdict;
+pub mod verdict;
 pub mod view;
-mod well_formed;
 
 // Where a session stands: at most one of signed in, awaiting a response and waiting on a ticket. `sent` counts the exchange's challenges.
 pub enum Phase {

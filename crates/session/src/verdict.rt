@@ -14,7 +14,7 @@ use profile::numbers::Refusal;
 use profile::numbers::Verdict;
 
 // An octet of a name.
-pub(crate) fn is_graphic(x: u8) -> bool
+pub fn is_graphic(x: u8) -> bool
     ensures { λ r. ⌜ r ≡ graphic x ⌝ }
 {
     (0x21 <= x) & (x <= 0x7E)
