@@ -12,8 +12,6 @@ use Rattle.octets.proofs.Cases.{both}
 use Rattle.codec.specs.Codec.{putNumber, getNumber}
 use Rattle.codec.specs.InPlace.{standsAt, everyAt}
 use Rattle.codec.proofs.InPlace.{standsAt-append}
-use Rattle.session.specs.Limits.{longestName}
-use Rattle.image.specs.Sizes.{slotSize}
 
 shared : (a b c : Bool) → ((a && b) && (b && c)) ≡ (a && (b && c))
 shared true true c = refl
@@ -95,35 +93,22 @@ module _ (l : List ℕ) where
       ∙ ap (λ (t : Bool). zeros a at && t) (sym z)
       ∙ sym (zeros-split a (b + c) at))
 
+  -- 64 to 96 zeros, told in a piece of 64 and the last 32
+  module _ (n at : ℕ) (low : 64 ≤ n) (high : n ≤ 96) where
+    wide : (zeros 64 at && zeros 32 (at + (n - 32))) ≡ zeros n at
+    wide =
+        let a : n - 32 + (96 - n) ≡ 64 = omega arith in
+        let b : 96 - n + (n - 64) ≡ 32 = omega arith in
+        let c : n - 32 + 32 ≡ n = omega arith in
+        rw (a, b, c) at (zeros-shared (n - 32) (96 - n) (n - 64) at (at + (n - 32)) refl)
+
+    pub wide-first : zeros 64 at ≡ false → false ≡ zeros n at
+    wide-first e = rw e at wide
+
+    pub wide-last : (to : ℕ) → at + (n - 32) ≡ to → zeros 64 at ≡ true → zeros 32 to ≡ zeros n at
+    wide-last to f e = rw (e, f) at wide
+
   module _ (at : ℕ) where
-    slot-pieces : (zeros 64 at && zeros 32 (at + 55)) ≡ zeros slotSize at
-    slot-pieces = zeros-shared 55 9 23 at (at + 55) refl
-
-    pub slot-first : zeros 64 at ≡ false → false ≡ zeros slotSize at
-    slot-first e = rw e at slot-pieces
-
-    pub slot-second : zeros 64 at ≡ true → zeros 32 (at + 55) ≡ zeros slotSize at
-    slot-second e = rw e at slot-pieces
-
-    -- 72 zeros and 73, in pieces of 64 and 32
-    awaiting-pieces : (zeros 64 (at + 2) && zeros 32 (at + 42)) ≡ zeros (8 + longestName) (at + 2)
-    awaiting-pieces = zeros-shared 40 24 8 (at + 2) (at + 42) (omega arith)
-
-    pub awaiting-first : zeros 64 (at + 2) ≡ false → false ≡ zeros (8 + longestName) (at + 2)
-    awaiting-first e = rw e at awaiting-pieces
-
-    pub awaiting-second : zeros 64 (at + 2) ≡ true → zeros 32 (at + 42) ≡ zeros (8 + longestName) (at + 2)
-    awaiting-second e = rw e at awaiting-pieces
-
-    idle-pieces : (zeros 64 (at + 1) && zeros 32 (at + 42)) ≡ zeros (1 + (8 + longestName)) (at + 1)
-    idle-pieces = zeros-shared 41 23 9 (at + 1) (at + 42) (omega arith)
-
-    pub idle-first : zeros 64 (at + 1) ≡ false → false ≡ zeros (1 + (8 + longestName)) (at + 1)
-    idle-first e = rw e at idle-pieces
-
-    pub idle-second : zeros 64 (at + 1) ≡ true → zeros 32 (at + 42) ≡ zeros (1 + (8 + longestName)) (at + 1)
-    idle-second e = rw e at idle-pieces
-
     -- what is no zero is not one of some
     pub zeros-first : (n : ℕ) → zeros (suc n) at ≡ true → getD l at 0 ≡ 0
     unfolding standsAt

@@ -66,8 +66,9 @@ module _ (l : List ℕ) (h : Header) where
   pub walk-start : fitFrom l h mostConnections ≡ true
   unfolding fitFrom
   walk-start =
+      let none-left = everyAt (slotFits l h) slotSize (mostConnections - mostConnections) (slotOffset mostConnections) in
       rw (
-        everyAt-end (slotFits l h) slotSize (everyAt (slotFits l h) slotSize (mostConnections - mostConnections) (slotOffset mostConnections)) mostConnections mostConnections serverSlots refl (omega arith),
+        everyAt-end (slotFits l h) slotSize none-left mostConnections mostConnections serverSlots refl (omega arith),
         differ-end numberOf (slotsAt l) mostConnections (omega (arith, counted)),
         differ-end ticketOf (slotsAt l) mostConnections (omega (arith, counted)),
       )
@@ -118,7 +119,7 @@ module _ (l : List ℕ) (h : Header) where
         let q = both (standsAt (replicate slotSize 0) l (slotOffset i)) (standsAt (replicate (k * slotSize) 0) l (slotOffset i + slotSize))
         (sym (zeros-split l slotSize (k * slotSize) (slotOffset i)) ∙ rw (← e) z) in
         let r = walk-skip k (i + 1) (omega arith) (rw (← o) (q .1)) (rw (← p) f) (rw (← p) a) (rw (← p) c) in
-        let t : isOne (getD l (slotOffset i) 0) ≡ false = ap isOne (zeros-first l (slotOffset i) 86 (q .0)) in (
+        let t : isOne (getD l (slotOffset i) 0) ≡ false = ap isOne (zeros-first l (slotOffset i) (slotSize - 1) (q .0)) in (
           sym (walk-turn i (omega arith) true true (sym (r .0)) (sym (q .0) ∙ free-joins i (omega arith) t n (r .1) m (r .2))),
           number-skips l i (omega arith) n t (r .1),
           ticket-skips l i (omega arith) m t (r .2),

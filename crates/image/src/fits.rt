@@ -22,6 +22,7 @@ use crate::sizes::NUMBER;
 use crate::sizes::PHASE;
 use crate::sizes::PHASE_SENT;
 use crate::sizes::PHASE_TICKET;
+use crate::sizes::PHASED;
 use crate::sizes::SERVER_SLOTS;
 use crate::sizes::SESSION_PHASE;
 use crate::sizes::SLOT;
@@ -73,6 +74,11 @@ fn is_name(image: &[u8], at: usize) -> bool
 
 // ---- an open connection, judged where it stands. at: where its phase stands
 
+// Zeros are told in a piece of 64 octets and one of the last 32, which share some: so the compiler looks at sixteen at a time.
+const PHASED_LAST: usize = PHASED - 32;
+
+const SLOT_LAST: usize = SLOT - 32;
+
 // One that waits on a ticket, which is below the next: nobody is signed in.
 fn is_waiting_below(image: &[u8], at: usize, next: u64) -> bool
     requires { ⌜ at + (phaseSize + longestName) ≤ length (now image) ⌝ }
@@ -101,7 +107,7 @@ fn is_signed_in(image: &[u8], at: usize) -> bool
     is_name(image, at + PHASE)
 }
 
-// One that an answer is awaited of: no ticket and no name, in two pieces that share octets.
+// One that an answer is awaited of: no ticket and no name.
 fn is_awaiting(image: &[u8], at: usize) -> bool
     requires { ⌜ at + (phaseSize + longestName) ≤ length (now image) ⌝ }
     ensures { λ r. ⌜ r ≡ (leb (getD (now (image .entry)) (at + 1) 0) mostChallenges && standsAt (replicate (8 + longestName) 0) (now (image .entry)) (at + 2)) ⌝ }
@@ -112,10 +118,10 @@ fn is_awaiting(image: &[u8], at: usize) -> bool
     if !are_zeros(image, at + PHASE_TICKET, 64) {
         return false;
     }
-    are_zeros(image, at + 42, 32)
+    are_zeros(image, at + PHASED_LAST, 32)
 }
 
-// One that is idle: nothing but zeros, likewise.
+// One that is idle: nothing but zeros.
 fn is_idle(image: &[u8], at: usize) -> bool
     requires { ⌜ at + (phaseSize + longestName) ≤ length (now image) ⌝ }
     ensures { λ r. ⌜ r ≡ standsAt (replicate (1 + (8 + longestName)) 0) (now (image .entry)) (at + 1) ⌝ }
@@ -123,7 +129,7 @@ fn is_idle(image: &[u8], at: usize) -> bool
     if !are_zeros(image, at + PHASE_SENT, 64) {
         return false;
     }
-    are_zeros(image, at + 42, 32)
+    are_zeros(image, at + PHASED_LAST, 32)
 }
 
 // What a session has from its phase on.
@@ -204,7 +210,7 @@ fn are_free(image: &[u8], i: usize) -> bool
     are_zeros(image, at, RUN * SLOT)
 }
 
-// Whether a slot is free, in two pieces that share octets: so the compiler looks at sixteen octets at a time.
+// Whether a slot is free.
 fn is_free(image: &[u8], at: usize) -> bool
     requires { ⌜ at + slotSize ≤ length (now image) ⌝ }
     ensures { λ r. ⌜ r ≡ standsAt (replicate slotSize 0) (now (image .entry)) at ⌝ }
@@ -212,7 +218,7 @@ fn is_free(image: &[u8], at: usize) -> bool
     if !are_zeros(image, at, 64) {
         return false;
     }
-    are_zeros(image, at + 55, 32)
+    are_zeros(image, at + SLOT_LAST, 32)
 }
 
 // Whether the slot at index i fits, of a server with this header, and no slot after it has its number or its ticket; if so, the tables have it too.

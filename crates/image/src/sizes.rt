@@ -19,7 +19,10 @@ pub(crate) const SESSION_PHASE: usize = 4;
 
 pub(crate) const SESSION_NAME: usize = SESSION_PHASE + PHASE;
 
-pub(crate) const SESSION: usize = SESSION_NAME + Session::LONGEST_NAME;
+// What a session has from its phase on.
+pub(crate) const PHASED: usize = PHASE + Session::LONGEST_NAME;
+
+pub(crate) const SESSION: usize = SESSION_PHASE + PHASED;
 
 pub(crate) const CONNECTION_SESSION: usize = NUMBER;
 

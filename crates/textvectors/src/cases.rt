@@ -1,7 +1,8 @@
 // RFC 4648 section 10, the examples of RFC 4954 and RFC 5034, and document 01's cases of base64 and xtext: rows with ";" between them. The first octet
 // of a row is its kind, and its text stands after that and a space: numbers, and then octets.
 // v a vector as RFC 4648 section 10 writes it; r texts that are read, with "|" between them; d how many octets are lent to decode the text into;
-// u the same, of base64 whose form is not looked at; e how many are lent to encode the octets into, and from which index on; p from where and up to where a line is read;
+// u the same, of base64 whose form is not looked at; e how many are lent to encode the octets into, and from which index on;
+// p from where and up to where a line is read;
 // t a text of four octets, with each other octet at each place; a all 256 octets, encoded into so many; l a text of so many letters.
 use crate::form::Form;
 use crate::rows;

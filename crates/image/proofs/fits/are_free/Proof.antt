@@ -1,5 +1,7 @@
+use Prim.Native.Nat.{_-_, _*_}
 use borrow.Author.Tests.{eq-eqb, ne-eqb}
 use borrow.Author.Needs.{needs}
+use Rattle.image.specs.Sizes.{slotSize}
 use Rattle.image.proofs.Pieces.{zeros-none}
 use Rattle.image.proofs.fits.are_free.Statement.{statement}
 use Rattle.image.proofs.fits.are_free.Tie as tie
@@ -7,7 +9,7 @@ use Rattle.image.proofs.fits.are_free.Tie as tie
 returns-2 : tie.Need-returns-2
 returns-2 c =
     let at-run = c .before .before in
-    rw (eq-eqb _ 0 (at-run .if1 .left)) (zeros-none _ _ 695 (c .if2 .taken))
+    rw (eq-eqb _ 0 (at-run .if1 .left)) (zeros-none _ _ (8 * slotSize - 1) (c .if2 .taken))
 
 returns-3 : tie.Need-returns-3
 returns-3 c =

@@ -33,6 +33,18 @@ returns-3 c =
     let n = sym (c .before .adds-number .ensures .0) ∙ not-true _ (c .if3 .taken) in
     (open-repeats _ _ (s .args .i) (s .pre .0) f n, λ e. absurd (true≢false (sym e)), λ e. absurd (true≢false (sym e)))
 
+number-requires : tie.Need-adds-number-requires
+number-requires c κs =
+    let at-flag = c .before .before .before in
+    let f = sym (at-flag .before .read-flag .ensures) ∙ not-false _ (at-flag .if1 .left) in
+    (search needs, search needs, f, at-flag .before .before .before .pre .2)
+
+ticket-requires : tie.Need-adds-ticket-requires
+ticket-requires c κs =
+    let at-flag = c .before .before .before .before .before .before in
+    let f = sym (at-flag .before .read-flag .ensures) ∙ not-false _ (at-flag .if1 .left) in
+    (search needs, search needs, f, at-flag .before .before .before .pre .3)
+
 returns-4 : tie.Need-returns-4
 returns-4 c =
     let at-number = c .before .before in
@@ -57,7 +69,7 @@ slot-joins-spec =
     (λ c. search needs)
     (λ c κs. search needs)
     returns-2
-    (λ c κs. let d = c .before .before .before in (search needs, search needs, sym (d .before .read-flag .ensures) ∙ not-false _ (d .if1 .left), d .before .before .before .pre .2))
+    number-requires
     returns-3
-    (λ c κs. let d = c .before .before .before .before .before .before in (search needs, search needs, sym (d .before .read-flag .ensures) ∙ not-false _ (d .if1 .left), d .before .before .before .pre .3))
+    ticket-requires
     returns-4)
