@@ -93,20 +93,20 @@ module _ (l : List ℕ) where
       ∙ ap (λ (t : Bool). zeros a at && t) (sym z)
       ∙ sym (zeros-split a (b + c) at))
 
-  -- 64 to 96 zeros, told in a piece of 64 and the last 32
-  module _ (n at : ℕ) (low : 64 ≤ n) (high : n ≤ 96) where
-    wide : (zeros 64 at && zeros 32 (at + (n - 32))) ≡ zeros n at
-    wide =
-        let a : n - 32 + (96 - n) ≡ 64 = omega arith in
-        let b : 96 - n + (n - 64) ≡ 32 = omega arith in
-        let c : n - 32 + 32 ≡ n = omega arith in
-        rw (a, b, c) at (zeros-shared (n - 32) (96 - n) (n - 64) at (at + (n - 32)) refl)
+  -- n zeros, told by the first p and the last q, which share some or meet
+  module _ (p q n at : ℕ) (first : p ≤ n) (last : q ≤ n) (all : n ≤ p + q) where
+    pieces : (zeros p at && zeros q (at + (n - q))) ≡ zeros n at
+    pieces =
+        let a : n - q + (p + q - n) ≡ p = omega arith in
+        let b : p + q - n + (n - p) ≡ q = omega arith in
+        let c : n - q + q ≡ n = omega arith in
+        rw (a, b, c) at (zeros-shared (n - q) (p + q - n) (n - p) at (at + (n - q)) refl)
 
-    pub wide-first : zeros 64 at ≡ false → false ≡ zeros n at
-    wide-first e = rw e at wide
+    pub pieces-first : zeros p at ≡ false → false ≡ zeros n at
+    pieces-first e = rw e at pieces
 
-    pub wide-last : (to : ℕ) → at + (n - 32) ≡ to → zeros 64 at ≡ true → zeros 32 to ≡ zeros n at
-    wide-last to f e = rw (e, f) at wide
+    pub pieces-last : (to : ℕ) → at + (n - q) ≡ to → zeros p at ≡ true → zeros q to ≡ zeros n at
+    pieces-last to f e = rw (e, f) at pieces
 
   module _ (at : ℕ) where
     -- what is no zero is not one of some

@@ -74,10 +74,10 @@ fn is_name(image: &[u8], at: usize) -> bool
 
 // ---- an open connection, judged where it stands. at: where its phase stands
 
-// Zeros are told in a piece of 64 octets and one of the last 32, which share some: so the compiler looks at sixteen at a time.
+// Zeros are told in two pieces that share octets, each a multiple of sixteen: so the compiler looks at sixteen at a time. Where the second begins:
 const PHASED_LAST: usize = PHASED - 32;
 
-const SLOT_LAST: usize = SLOT - 32;
+const SLOT_LAST: usize = SLOT - 80;
 
 // One that waits on a ticket, which is below the next: nobody is signed in.
 fn is_waiting_below(image: &[u8], at: usize, next: u64) -> bool
@@ -215,10 +215,10 @@ fn is_free(image: &[u8], at: usize) -> bool
     requires { ⌜ at + slotSize ≤ length (now image) ⌝ }
     ensures { λ r. ⌜ r ≡ standsAt (replicate slotSize 0) (now (image .entry)) at ⌝ }
 {
-    if !are_zeros(image, at, 64) {
+    if !are_zeros(image, at, 80) {
         return false;
     }
-    are_zeros(image, at + SLOT_LAST, 32)
+    are_zeros(image, at + SLOT_LAST, 80)
 }
 
 // Whether the slot at index i fits, of a server with this header, and no slot after it has its number or its ticket; if so, the tables have it too.

@@ -3,21 +3,21 @@ use borrow.Author.Tests.{not-true, not-false}
 use native.Mathlib.Omega.{arith}
 use borrow.Author.Needs.{needs}
 use Rattle.image.specs.Sizes.{slotSize}
-use Rattle.image.proofs.Pieces.{wide-first, wide-last}
+use Rattle.image.proofs.Pieces.{pieces-first, pieces-last}
 use Rattle.image.proofs.fits.is_free.Statement.{statement}
 use Rattle.image.proofs.fits.is_free.Tie as tie
 
 returns-2 : tie.Need-returns-2
 returns-2 c =
     let at-first = c .before in
-    rw (c .are-zeros2 .ensures) (wide-last _ slotSize _ (omega arith) (omega arith) _ (omega arith) (sym (at-first .before .are-zeros .ensures) ∙ not-false _ (at-first .if1 .left)))
+    rw (c .are-zeros2 .ensures) (pieces-last _ 80 80 slotSize _ (omega arith) (omega arith) (omega arith) _ (omega arith) (sym (at-first .before .are-zeros .ensures) ∙ not-false _ (at-first .if1 .left)))
 
 pub is-free-spec : {M : Type 1} → statement M
 is-free-spec =
     tie.close
     (tie.spec
     (λ c κs. search needs)
-    (λ c. wide-first _ slotSize _ (omega arith) (omega arith) (sym (c .before .are-zeros .ensures) ∙ not-true _ (c .if1 .taken)))
+    (λ c. pieces-first _ 80 80 slotSize _ (omega arith) (omega arith) (omega arith) (sym (c .before .are-zeros .ensures) ∙ not-true _ (c .if1 .taken)))
     (λ c. search needs)
     (λ c κs. search needs)
     returns-2)
