@@ -28,6 +28,10 @@ use crate::sizes::SERVER_MECHANISMS;
 use crate::sizes::SESSION_NAME;
 use crate::sizes::SESSION_PHASE;
 use crate::sizes::SLOT;
+use crate::slots::AWAITING;
+use crate::slots::IDLE;
+use crate::slots::SIGNED_IN;
+use crate::slots::WAITING;
 use lines::mechanism::LONGEST_MECHANISM;
 use profile::Profile;
 use server::Connection;
@@ -63,13 +67,13 @@ fn profile_octet(profile: Profile) -> u8
 fn phase_at(number: u8, sent: u8, ticket: u64) -> Phase
     ensures { λ r. ⌜ r ≡ phaseAt number sent ticket ⌝ }
 {
-    if number == 1 {
+    if number == SIGNED_IN {
         return Phase::SignedIn;
     }
-    if number == 2 {
+    if number == AWAITING {
         return Phase::Awaiting { sent };
     }
-    if number == 3 {
+    if number == WAITING {
         return Phase::Waiting { ticket, sent };
     }
     Phase::Idle
@@ -79,10 +83,10 @@ fn phase_number(phase: Phase) -> u8
     ensures { λ r. ⌜ r ≡ phaseNumber phase ⌝ }
 {
     match phase {
-        Phase::Idle => 0,
-        Phase::SignedIn => 1,
-        Phase::Awaiting { .. } => 2,
-        Phase::Waiting { .. } => 3,
+        Phase::Idle => IDLE,
+        Phase::SignedIn => SIGNED_IN,
+        Phase::Awaiting { .. } => AWAITING,
+        Phase::Waiting { .. } => WAITING,
     }
 }
 
