@@ -10,7 +10,8 @@ use Rattle.image.proofs.fits.is_free.Tie as tie
 returns-2 : tie.Need-returns-2
 returns-2 c =
     let at-first = c .before in
-    rw (c .are-zeros2 .ensures) (pieces-last _ 80 80 slotSize _ (omega arith) (omega arith) (omega arith) _ (omega arith) (sym (at-first .before .are-zeros .ensures) ∙ not-false _ (at-first .if1 .left)))
+    let e = sym (at-first .before .are-zeros .ensures) ∙ not-false _ (at-first .if1 .left) in
+    rw (c .are-zeros2 .ensures) (pieces-last _ 80 80 slotSize _ (omega arith) (omega arith) (omega arith) _ (omega arith) e)
 
 pub is-free-spec : {M : Type 1} → statement M
 is-free-spec =
