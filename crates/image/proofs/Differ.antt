@@ -81,7 +81,8 @@ module _ (l : List ℕ) (o : ℕ) (n : List ℕ) (m : ℕ) where
   empty-in [] a k e h = absurd (omega (arith, e))
   empty-in (j ∷ ks) a k e h = go (eqb (getD n j 0) 0) refl (isOf l o (getD n j 0) m) e (λ g. empty-in ks (both (ltb j buckets) (inTable ks) a .1) k g h)
     where
-      go : (b : Bool) → eqb (getD n j 0) 0 ≡ b → (c : Bool) → cond b j (cond c buckets (emptyBucket l o n m ks)) ≡ k → (emptyBucket l o n m ks ≡ k → getD n k 0 ≡ 0) → getD n k 0 ≡ 0
+      go : (b : Bool) → eqb (getD n j 0) 0 ≡ b → (c : Bool) → cond b j (cond c buckets (emptyBucket l o n m ks)) ≡ k
+          → (emptyBucket l o n m ks ≡ k → getD n k 0 ≡ 0) → getD n k 0 ≡ 0
       go true f c g r = rw (← g) (eqb-true (getD n j 0) 0 f)
       go false f true g r = absurd (omega (arith, g))
       go false f false g r = r g

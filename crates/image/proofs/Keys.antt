@@ -1,7 +1,7 @@
 -- The numbers and the tickets of an image's slots told apart where they stand. Assumes nothing.
 use mathlib.Core.Path.{_≡_, refl, sym, ap, _∙_}
 use mathlib.Core.Bool.{Bool, true, false, cond, not, _&&_}
-use mathlib.Core.Option.{none, some}
+use mathlib.Core.Option.{Option, none, some}
 use mathlib.Core.List.{List}
 use Prim.Native.Nat.{ℕ, _+_, _%_, _<_, _≤_}
 use native.Mathlib.Omega.{arith}
@@ -127,41 +127,45 @@ module _ (l : List ℕ) (j : ℕ) (bound : j < mostConnections) where
       let i : own % mostConnections ≡ j = omega arith in
       rw i (eq-eqb (getNumber 8 l (slotOffset j + o)) m (sym e))
 
+  -- a slot that has a key, m, at o: k is its empty bucket or 512; q tells the slots with a key
+  module _ (key : Slot → Option ℕ) (o : ℕ) (q : ℕ → Slot → Bool) (told : (m : ℕ) (y : Slot) → has (key y) m ≡ q m y) (n : List ℕ) (h : Met key o l (j + 1) n)
+      (m k : ℕ) (is : key (getD (slotsAt l) j none) ≡ some m) (em : m ≡ getNumber 8 l (slotOffset j + o)) (ek : k ≡ emptyBucket l o n m (bucketsOf m)) where
+    key-taken : k < buckets → (true ≡ isNew key (slotsAt l) j) × Met key o l j (set n k own)
+    key-taken b = (new-found l key o j n h m is k ek b, met-taken l key o j n h m is k ek b own own-there (own-of o m em))
+
+    key-compared : buckets ≤ k → k ≤ buckets → (every (λ y. not (q m y)) (drop (j + 1) (slotsAt l)) ≡ isNew key (slotsAt l) j) × Met key o l j n
+    key-compared b c =
+        let g : every (λ y. not (has (key y) m)) (drop (j + 1) (slotsAt l)) ≡ every (λ y. not (q m y)) (drop (j + 1) (slotsAt l)) =
+        λ i. every (λ y. not (told m y i)) (drop (j + 1) (slotsAt l)) in
+        (sym g ∙ new-compared l key o j n h m is k ek b c, met-compared l key o j n h m is k ek b c)
+
   module _ (n : List ℕ) (f : isOne (getD l (slotOffset j) 0) ≡ true) where
-    -- an open one: m is its number, k its empty bucket or 512
+    -- an open one, by its number
     module _ (h : Met numberOf slotNumber l (j + 1) n) (m k : ℕ) (em : m ≡ getNumber 8 l (slotOffset j + slotNumber))
         (ek : k ≡ emptyBucket l slotNumber n m (bucketsOf m)) where
       number-is : numberOf (getD (slotsAt l) j none) ≡ some m
       number-is = rw em (number-open f)
 
       pub number-taken : k < buckets → (true ≡ isNew numberOf (slotsAt l) j) × Met numberOf slotNumber l j (set n k own)
-      number-taken b =
-          (new-found l numberOf slotNumber j n h m number-is k ek b, met-taken l numberOf slotNumber j n h m number-is k ek b own own-there (own-of slotNumber m em))
+      number-taken = key-taken numberOf slotNumber (λ m. holding (isNumbered m)) has-number n h m k number-is em ek
 
       pub number-compared : buckets ≤ k → k ≤ buckets
           → (every (λ y. not (holding (isNumbered m) y)) (drop (j + 1) (slotsAt l)) ≡ isNew numberOf (slotsAt l) j) × Met numberOf slotNumber l j n
-      number-compared b c =
-          let g : every (λ y. not (has (numberOf y) m)) (drop (j + 1) (slotsAt l)) ≡ every (λ y. not (holding (isNumbered m) y)) (drop (j + 1) (slotsAt l)) =
-          λ i. every (λ y. not (has-number m y i)) (drop (j + 1) (slotsAt l)) in
-          (sym g ∙ new-compared l numberOf slotNumber j n h m number-is k ek b c, met-compared l numberOf slotNumber j n h m number-is k ek b c)
+      number-compared = key-compared numberOf slotNumber (λ m. holding (isNumbered m)) has-number n h m k number-is em ek
 
+    -- and by the ticket that it waits on
     module _ (h : Met ticketOf slotTicket l (j + 1) n) where
-      -- m is the ticket that it waits on
       module _ (w : eqb (tag l (slotOffset j)) 3 ≡ true) (m k : ℕ) (em : m ≡ getNumber 8 l (slotOffset j + slotTicket))
           (ek : k ≡ emptyBucket l slotTicket n m (bucketsOf m)) where
         ticket-is : ticketOf (getD (slotsAt l) j none) ≡ some m
         ticket-is = rw em (ticket-open f true w)
 
         pub ticket-taken : k < buckets → (true ≡ isNew ticketOf (slotsAt l) j) × Met ticketOf slotTicket l j (set n k own)
-        ticket-taken b =
-            (new-found l ticketOf slotTicket j n h m ticket-is k ek b, met-taken l ticketOf slotTicket j n h m ticket-is k ek b own own-there (own-of slotTicket m em))
+        ticket-taken = key-taken ticketOf slotTicket (λ m. holding (isWaiting m)) has-ticket n h m k ticket-is em ek
 
         pub ticket-compared : buckets ≤ k → k ≤ buckets
             → (every (λ y. not (holding (isWaiting m) y)) (drop (j + 1) (slotsAt l)) ≡ isNew ticketOf (slotsAt l) j) × Met ticketOf slotTicket l j n
-        ticket-compared b c =
-            let g : every (λ y. not (has (ticketOf y) m)) (drop (j + 1) (slotsAt l)) ≡ every (λ y. not (holding (isWaiting m) y)) (drop (j + 1) (slotsAt l)) =
-            λ i. every (λ y. not (has-ticket m y i)) (drop (j + 1) (slotsAt l)) in
-            (sym g ∙ new-compared l ticketOf slotTicket j n h m ticket-is k ek b c, met-compared l ticketOf slotTicket j n h m ticket-is k ek b c)
+        ticket-compared = key-compared ticketOf slotTicket (λ m. holding (isWaiting m)) has-ticket n h m k ticket-is em ek
 
       -- one that waits on no ticket
       pub ticket-passes : eqb (tag l (slotOffset j)) 3 ≡ false → (true ≡ isNew ticketOf (slotsAt l) j) × Met ticketOf slotTicket l j n

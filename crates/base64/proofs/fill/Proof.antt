@@ -11,7 +11,8 @@ use Rattle.base64.proofs.fill.Tie as tie
 
 abbrev Inv-loop : tie.InvT-loop
 Inv-loop k text out₀ size n₀ i₀ out n i =
-    (i ≤ length text) × (length out ≡ length out₀) × (n + length (unchecked (drop i text)) ≡ length (unchecked text)) × (sets out n (unchecked (drop i text)) ≡ sets out₀ 0 (unchecked text))
+    (i ≤ length text) × (length out ≡ length out₀) × (n + length (unchecked (drop i text)) ≡ length (unchecked text))
+    × (sets out n (unchecked (drop i text)) ≡ sets out₀ 0 (unchecked text))
 
 abbrev μ-loop : tie.MeasureT-loop
 μ-loop k text out₀ size n₀ i₀ out n i = length text - i
