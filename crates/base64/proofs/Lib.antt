@@ -1,5 +1,6 @@
 -- What the proofs of base64 share, and its laws.
 pub mod Groups
+pub mod Ranges
 pub mod Turns
 pub mod Quads
 pub mod Grammar

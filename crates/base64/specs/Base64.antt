@@ -14,12 +14,16 @@ use Rattle.octets.specs.declared.Encoded.{Encoded}
 use Rattle.base64.specs.declared.Group.{Group}
 use Rattle.base64.specs.declared.Group.the-variants.{One, Two, Three, Bad}
 
--- "Table 1: The Base 64 Alphabet": A-Z, a-z, 0-9, "+", "/"
+-- RFC 4648 section 4, table 1, in the order of its numbers: five ranges, a line each. A-Z have 0 to 25, a-z 26 to 51, 0-9 52 to 61, "+" has 62, "/" 63.
+-- The decoder numbers the octets range by range (`values` of src/lib.rt), the encoder has this list (`alphabet` there)
 unfoldable pub alphabet : List ℕ
 alphabet =
     65 ∷ 66 ∷ 67 ∷ 68 ∷ 69 ∷ 70 ∷ 71 ∷ 72 ∷ 73 ∷ 74 ∷ 75 ∷ 76 ∷ 77 ∷ 78 ∷ 79 ∷ 80 ∷ 81 ∷ 82 ∷ 83 ∷ 84 ∷ 85 ∷ 86 ∷ 87 ∷ 88 ∷ 89 ∷ 90
     ∷ 97 ∷ 98 ∷ 99 ∷ 100 ∷ 101 ∷ 102 ∷ 103 ∷ 104 ∷ 105 ∷ 106 ∷ 107 ∷ 108 ∷ 109 ∷ 110 ∷ 111 ∷ 112 ∷ 113 ∷ 114 ∷ 115 ∷ 116 ∷ 117 ∷ 118 ∷ 119 ∷ 120 ∷ 121 ∷ 122
-    ∷ 48 ∷ 49 ∷ 50 ∷ 51 ∷ 52 ∷ 53 ∷ 54 ∷ 55 ∷ 56 ∷ 57 ∷ 43 ∷ 47 ∷ []
+    ∷ 48 ∷ 49 ∷ 50 ∷ 51 ∷ 52 ∷ 53 ∷ 54 ∷ 55 ∷ 56 ∷ 57
+    ∷ 43
+    ∷ 47
+    ∷ []
 
 -- the letter of a number below 64; the number of a letter, and 64 of any other octet
 unfoldable pub letter : ℕ → ℕ

@@ -1,12 +1,12 @@
 // Base64, RFC 4648 section 4.
 ghost use mathlib.Core.Path.{_≡_};
 ghost use mathlib.Core.List.{_∷_, []};
-ghost use Prim.Native.Nat.{_+_, _^_, _≤_, _<_};
+ghost use Prim.Native.Nat.{_+_, _-_, _^_, _≤_, _<_};
 ghost use lib.ListN.{length};
 ghost use lib.Seq.{sets, slice};
 ghost use Rattle.octets.specs.Answers.{written};
 ghost use Rattle.base64.specs.Base64.{alphabet, letter, value, bits, quad1, quad2, quad3, encode, joined, letters, letters3, letters2, three, two, one, groupOf, octetsOf, unchecked, measured, decoded, decodedInto, uncheckedInto, encoded};
-ghost use Rattle.base64.specs.Private.{values, groupAt, lettersAt, threeAt, last};
+ghost use Rattle.base64.specs.Private.{values, numberRange, groupAt, lettersAt, threeAt, last};
 
 pub mod reader;
 
@@ -90,14 +90,33 @@ pub fn encode(bytes: &[u8], out: &mut [u8], at: usize) -> Encoded
     Encoded::End(spell(&k, bytes, out, at))
 }
 
-// The numbers of all octets. An array is made anew on the stack wherever it is written, so each public function
-// makes it once and lends it to the others.
+// The numbers of all octets, from the alphabet's five ranges: A-Z, a-z, 0-9, "+", "/". An octet in none of them has 64. An array is made anew on the
+// stack wherever it is written, so each public function makes the table once and lends it to the others.
 fn values() -> [u8; 256]
     ensures { λ r. ⌜ r ≡ values ⌝ }
 {
-    let t =
-        b"\x40\x40\x40\x40\x40\x40\x40\x40\x40\x40\x40\x40\x40\x40\x40\x40\x40\x40\x40\x40\x40\x40\x40\x40\x40\x40\x40\x40\x40\x40\x40\x40\x40\x40\x40\x40\x40\x40\x40\x40\x40\x40\x40\x3e\x40\x40\x40\x3f\x34\x35\x36\x37\x38\x39\x3a\x3b\x3c\x3d\x40\x40\x40\x40\x40\x40\x40\x00\x01\x02\x03\x04\x05\x06\x07\x08\x09\x0a\x0b\x0c\x0d\x0e\x0f\x10\x11\x12\x13\x14\x15\x16\x17\x18\x19\x40\x40\x40\x40\x40\x40\x1a\x1b\x1c\x1d\x1e\x1f\x20\x21\x22\x23\x24\x25\x26\x27\x28\x29\x2a\x2b\x2c\x2d\x2e\x2f\x30\x31\x32\x33\x40\x40\x40\x40\x40\x40\x40\x40\x40\x40\x40\x40\x40\x40\x40\x40\x40\x40\x40\x40\x40\x40\x40\x40\x40\x40\x40\x40\x40\x40\x40\x40\x40\x40\x40\x40\x40\x40\x40\x40\x40\x40\x40\x40\x40\x40\x40\x40\x40\x40\x40\x40\x40\x40\x40\x40\x40\x40\x40\x40\x40\x40\x40\x40\x40\x40\x40\x40\x40\x40\x40\x40\x40\x40\x40\x40\x40\x40\x40\x40\x40\x40\x40\x40\x40\x40\x40\x40\x40\x40\x40\x40\x40\x40\x40\x40\x40\x40\x40\x40\x40\x40\x40\x40\x40\x40\x40\x40\x40\x40\x40\x40\x40\x40\x40\x40\x40\x40\x40\x40\x40\x40\x40\x40\x40\x40\x40\x40\x40\x40\x40\x40\x40";
-    *t
+    let k: [u8; 256] = [64; 256];
+    let k = number_range(k, b'A', b'Z', 0);
+    let k = number_range(k, b'a', b'z', 26);
+    let k = number_range(k, b'0', b'9', 52);
+    let k = number_range(k, b'+', b'+', 62);
+    number_range(k, b'/', b'/', 63)
+}
+
+// A table with the octets from low to high numbered in turn, from a number on.
+fn number_range(mut k: [u8; 256], low: u8, high: u8, number: u8) -> [u8; 256]
+    requires { ⌜ number + (high + 1 - low) ≤ 64 ⌝ }
+    ensures { λ r. ⌜ r ≡ numberRange k low high number ⌝ }
+{
+    let end = high as usize + 1;
+    let mut i = low as usize;
+    let mut v = number;
+    while i < end {
+        k[i] = v;
+        v += 1;
+        i += 1;
+    }
+    k
 }
 
 // The number of a letter, and 64 of any other octet.
