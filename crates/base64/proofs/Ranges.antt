@@ -5,8 +5,6 @@ use Prim.Native.Nat.{ℕ, suc, _+_, _-_, _<_, _≤_}
 use native.Mathlib.Numerals.{add-one}
 use native.Mathlib.Omega.{arith}
 use lib.ListN.{set, replicate}
-use lib.Seq.{sets}
-use Rattle.octets.specs.Alphabet.{tabulated}
 use Rattle.base64.specs.Base64.{alphabet, value}
 use Rattle.base64.specs.Private.{values, numberRange}
 
@@ -15,16 +13,13 @@ pub five-ranges : numberRange (numberRange (numberRange (numberRange (numberRang
 unfolding values value alphabet
 five-ranges = refl
 
--- the table once the octets from i up to an end are numbered in turn, from v on; it stays the same from turn to turn, and is reached at the end
-abbrev pub numbering : List ℕ → ℕ → ℕ → ℕ → List ℕ
-numbering k i end v = sets k i (tabulated (λ x. x) (end - i) v)
+-- the loop: what numbering the octets from i to high makes of a table stays the same when octet i is numbered; with i behind high it is the table itself
+pub range-turn : (k w : List ℕ) (i high v : ℕ) → i < high + 1 → numberRange k i high v ≡ w → numberRange (set k i v) (i + 1) high (v + 1) ≡ w
+range-turn k w i high v h e =
+    let one-more : high + 1 - i ≡ suc (suc high - suc i) = omega arith in
+    rw (add-one, add-one, add-one) (rw one-more at e)
 
-pub numbering-turn : (k w : List ℕ) (i end v : ℕ) → i < end → numbering k i end v ≡ w → numbering (set k i v) (i + 1) end (v + 1) ≡ w
-numbering-turn k w i end v h e =
-    let one-more : end - i ≡ suc (end - suc i) = omega arith in
-    rw (add-one, add-one) (rw one-more at e)
-
-pub numbering-end : (k w : List ℕ) (i end v : ℕ) → end ≤ i → numbering k i end v ≡ w → k ≡ w
-numbering-end k w i end v h e =
-    let none-left : end - i ≡ 0 = omega arith in
+pub range-end : (k w : List ℕ) (i high v : ℕ) → high + 1 ≤ i → numberRange k i high v ≡ w → k ≡ w
+range-end k w i high v h e =
+    let none-left : high + 1 - i ≡ 0 = omega arith in
     rw none-left at e

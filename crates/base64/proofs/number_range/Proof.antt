@@ -3,13 +3,13 @@ use Prim.Native.Nat.{_+_, _-_}
 use native.Mathlib.Omega.{arith}
 use borrow.Author.Needs.{needs}
 use Rattle.base64.specs.Private.{numberRange}
-use Rattle.base64.proofs.Ranges.{numbering, numbering-turn, numbering-end}
+use Rattle.base64.proofs.Ranges.{range-turn, range-end}
 use Rattle.base64.proofs.number_range.Statement.{statement}
 use Rattle.base64.proofs.number_range.Tie as tie
 
 abbrev Inv-loop : tie.InvT-loop
 Inv-loop low high number k₀ end i₀ v₀ k i v =
-    (v + (end - i) ≡ number + (end - low)) × (numbering k i end v ≡ numberRange k₀ low high number)
+    (v + (end - i) ≡ number + (end - low)) × (numberRange k i high v ≡ numberRange k₀ low high number)
 
 abbrev μ-loop : tie.MeasureT-loop
 μ-loop low high number k₀ end i₀ v₀ k i v = end - i
@@ -17,12 +17,12 @@ abbrev μ-loop : tie.MeasureT-loop
 loop-again : tie.Need-loop-again Inv-loop μ-loop
 loop-again c =
     let l = c .before .loop in
-    (omega arith, numbering-turn _ _ (l .i) _ (l .v) (omega arith) (l .inv .1))
+    (omega arith, range-turn _ _ (l .i) _ (l .v) (omega arith) (l .inv .1))
 
 returns : tie.Need-returns Inv-loop μ-loop
 returns c =
     let l = c .before .loop in
-    numbering-end _ _ (l .i) _ (l .v) (omega arith) (l .inv .1)
+    range-end _ _ (l .i) _ (l .v) (omega arith) (l .inv .1)
 
 pub number-range-spec : {M : Type 1} → statement M
 number-range-spec =
