@@ -222,7 +222,7 @@ static void put_one_of(struct line *line, const char *const *pieces, size_t coun
 
 static const char *const verbs[] = {"EHLO", "HELO", "RSET", "QUIT", "MAIL", "AUTH", "USER", "PASS", "APOP", "NOOP", "AUT", "MAILX", ""};
 static const char *const arguments[] = {"", " ", "  ", " a", " client.example.com", "\t", "\ta"};
-static const char *const names[] = {"PLAIN", "CRAM-MD5", "X_9", "A", "ABCDEFGHIJKLMNOPQRST", "ABCDEFGHIJKLMNOPQRSTU", "plain", ""};
+static const char *const names[] = {"PLAIN", "CRAM-MD5", "X_9", "A", "ABCDEFGHIJKLMNOPQRST", "ABCDEFGHIJKLMNOPQRSTU", "plain", "abcdefghijklmnopqrstu", ""};
 static const char *const groups[] = {"Zm9v", "AAAA", "+/09", "Zg==", "Zh==", "Zm8=", "Zm9=", "=AAA", "A===", "====", "AA=A"};
 static const char *const wholes[] = {"", "=", "*", "==", "**", "A", "Zm9"};
 static const char *const paths[] = {"", "a@b.c", "a b", "<", "\"a\"", "\x01\xff", "a>b"};
@@ -351,6 +351,8 @@ static const char *const bases[] = {
     "AUTH X =",
     "AUTH PLAIN Zm9v",
     "AUTH CRAM-MD5 Zm9vZg==",
+    "AUTH cram-md5 Zm9vZg==",
+    "AUTH abcdefghijklmnopqrst",
     "MAIL FROM:<>",
     "MAIL FROM:<a@b.c>",
     "MAIL FROM:<a> X",

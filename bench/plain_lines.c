@@ -4,11 +4,10 @@
 
 enum { SMTP_COMMAND = 510, SMTP_MAIL = 1010, POP3_COMMAND = 253, RESPONSE = 12286, NAME = 20 };
 
-/* Where an octet may stand: in a keyword, at its first place, in a value, in xtext for itself, in a mechanism's name. */
+/* Where an octet may stand: in a keyword, at its first place, in a value, in xtext for itself, in a mechanism's name in a line. */
 enum { K = 1, F = 2, V = 4, X = 8, M = 16 };
 
-#define LETTER (K | F | V | X)
-#define CAPITAL (LETTER | M)
+#define LETTER (K | F | V | X | M)
 #define MARK (V | X)
 #define HYPHEN (K | V | X | M)
 #define LOW (V | X | M)
@@ -16,14 +15,14 @@ enum { K = 1, F = 2, V = 4, X = 8, M = 16 };
 static const uint8_t class[256] = {
     ['!'] = MARK, ['"'] = MARK, ['#'] = MARK, ['$'] = MARK, ['%'] = MARK, ['&'] = MARK, ['\''] = MARK, ['('] = MARK,
     [')'] = MARK, ['*'] = MARK, ['+'] = V, [','] = MARK, ['-'] = HYPHEN, ['.'] = MARK, ['/'] = MARK,
-    ['0'] = CAPITAL, ['1'] = CAPITAL, ['2'] = CAPITAL, ['3'] = CAPITAL, ['4'] = CAPITAL, ['5'] = CAPITAL,
-    ['6'] = CAPITAL, ['7'] = CAPITAL, ['8'] = CAPITAL, ['9'] = CAPITAL,
+    ['0'] = LETTER, ['1'] = LETTER, ['2'] = LETTER, ['3'] = LETTER, ['4'] = LETTER, ['5'] = LETTER,
+    ['6'] = LETTER, ['7'] = LETTER, ['8'] = LETTER, ['9'] = LETTER,
     [':'] = MARK, [';'] = MARK, ['<'] = MARK, ['>'] = MARK, ['?'] = MARK, ['@'] = MARK,
-    ['A'] = CAPITAL, ['B'] = CAPITAL, ['C'] = CAPITAL, ['D'] = CAPITAL, ['E'] = CAPITAL, ['F'] = CAPITAL,
-    ['G'] = CAPITAL, ['H'] = CAPITAL, ['I'] = CAPITAL, ['J'] = CAPITAL, ['K'] = CAPITAL, ['L'] = CAPITAL,
-    ['M'] = CAPITAL, ['N'] = CAPITAL, ['O'] = CAPITAL, ['P'] = CAPITAL, ['Q'] = CAPITAL, ['R'] = CAPITAL,
-    ['S'] = CAPITAL, ['T'] = CAPITAL, ['U'] = CAPITAL, ['V'] = CAPITAL, ['W'] = CAPITAL, ['X'] = CAPITAL,
-    ['Y'] = CAPITAL, ['Z'] = CAPITAL,
+    ['A'] = LETTER, ['B'] = LETTER, ['C'] = LETTER, ['D'] = LETTER, ['E'] = LETTER, ['F'] = LETTER,
+    ['G'] = LETTER, ['H'] = LETTER, ['I'] = LETTER, ['J'] = LETTER, ['K'] = LETTER, ['L'] = LETTER,
+    ['M'] = LETTER, ['N'] = LETTER, ['O'] = LETTER, ['P'] = LETTER, ['Q'] = LETTER, ['R'] = LETTER,
+    ['S'] = LETTER, ['T'] = LETTER, ['U'] = LETTER, ['V'] = LETTER, ['W'] = LETTER, ['X'] = LETTER,
+    ['Y'] = LETTER, ['Z'] = LETTER,
     ['['] = MARK, ['\\'] = MARK, [']'] = MARK, ['^'] = MARK, ['_'] = LOW, ['`'] = MARK,
     ['a'] = LETTER, ['b'] = LETTER, ['c'] = LETTER, ['d'] = LETTER, ['e'] = LETTER, ['f'] = LETTER,
     ['g'] = LETTER, ['h'] = LETTER, ['i'] = LETTER, ['j'] = LETTER, ['k'] = LETTER, ['l'] = LETTER,

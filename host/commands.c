@@ -1,5 +1,6 @@
 /* What each command does where no exchange runs, and the order of AUTH's checks. */
 #include "check.h"
+#include <string.h>
 
 /* Whether AUTH is for this moment: greeted, in no transaction, not signed in. The exchange is ended again. */
 static void expect_moment(uint64_t connection, bool right) {
@@ -205,12 +206,13 @@ static void auth_grammar(void) {
     static const char *const lines[] = {
         "AUTH", "auth", "AUTH ", "AUTH  ", "AUTH  PLAIN", "AUTH PLAIN ", "AUTH PLAIN  ", "AUTH PLAIN  Zm9v", "AUTH PLAIN Zm9v ",
         "AUTH PLAIN Zm9v Zm9v", "AUTH PLAIN Zm9v =", "AUTH PLAIN = ", "AUTH PLAIN ==", "AUTH PLAIN =A", "AUTH PLAIN =AAA",
-        "AUTH PLAIN *", "AUTH plain", "AUTH PLAIN. Zm9v", "AUTH Plain Zm9v", "AUTH PLAIN\tZm9v", "AUTH ABCDEFGHIJKLMNOPQRSTU",
+        "AUTH PLAIN *", "AUTH plain.", "AUTH PLAIN. Zm9v", "AUTH plain ", "AUTH PLAIN\tZm9v", "AUTH ABCDEFGHIJKLMNOPQRSTU",
+        "AUTH abcdefghijklmnopqrstu", "AUTH ABCDEFGHIJKLMNOPQRSTu Zm9v",
         "AUTH *", "AUTH =", "AUTH \xff", "AUTH PLAIN Zm9", "AUTH PLAIN Zm9vZ", "AUTH PLAIN Z", "AUTH PLAIN Zh==",
         "AUTH PLAIN Zm9=", "AUTH PLAIN ====", "AUTH PLAIN Zm9v====",
         "AUTH PLAIN Zg==Zm9v", "AUTH PLAIN Zm9v\tZm9v", "AUTH PLAIN -m9v", "AUTH PLAIN _m9v", "AUTH PLAIN AAA=BBBB",
         /* base64 is part of the grammar, and comes before the mechanism */
-        "AUTH NOSUCH !", "AUTH NOSUCH ", "AUTH CRAM-MD5 Zh==", "AUTH CRAM-MD5 ",
+        "AUTH NOSUCH !", "AUTH nosuch !", "AUTH NOSUCH ", "AUTH CRAM-MD5 Zh==", "AUTH CRAM-MD5 ", "AUTH cram-md5 Zh==",
     };
     for (size_t i = 0; i < COUNT(lines); i++) {
         expect_syntax_error(of_string(lines[i]));
@@ -221,6 +223,7 @@ static void auth_without_a_mechanism_of_its_name(void) {
     static const char *const lines[] = {
         "AUTH NOSUCH", "AUTH NOSUCH Zm9v", "AUTH NOSUCH =", "AUTH PLAI", "AUTH PLAINS", "AUTH P", "AUTH CRAM-MD",
         "AUTH CRAM-MD51 Zm9v", "AUTH ABCDEFGHIJKLMNOPQRST", "AUTH -", "AUTH _ Zm9v", "auth NOSUCH",
+        "AUTH nosuch", "AUTH NoSuch Zm9v", "AUTH nosuch =", "AUTH plai", "AUTH plains", "AUTH cram-md51", "AUTH abcdefghijklmnopqrst", "AUTH z",
     };
     make_server();
     uint64_t smtp = open_smtp();
@@ -228,6 +231,82 @@ static void auth_without_a_mechanism_of_its_name(void) {
     for (size_t i = 0; i < COUNT(lines); i++) {
         EXPECT_REPLY(smtp, of_string(lines[i]), "504 5.5.4 Mechanism not available");
         EXPECT_REPLY(pop3, of_string(lines[i]), "-ERR Mechanism not available");
+    }
+}
+
+/* An AUTH line with this name, and after it the text. */
+static struct text auth_line(const uint8_t *name, size_t size, struct text after) {
+    return joined(joined(T("AUTH "), (struct text){name, size}), after);
+}
+
+/* Under this spelling PLAIN and CRAM-MD5 are what make_server has added: the first speaks first, the other does not. */
+static void expect_found(uint64_t profile, uint64_t connection, struct text name, bool client_first) {
+    struct text alone = auth_line(name.octets, name.size, NO_OCTETS);
+    struct text initial = auth_line(name.octets, name.size, T(" Zm9v"));
+    uint64_t ticket = next_ticket();
+    if (client_first) {
+        EXPECT_REPLY(connection, alone, hears[profile][EMPTY_CHALLENGE]);
+        EXPECT_REPLY(connection, T("*"), hears[profile][CANCELLED]);
+        EXPECT_QUERY(connection, initial, ticket, T("foo"));
+    } else {
+        EXPECT_REPLY(connection, initial, hears[profile][NO_INITIAL]);
+        EXPECT_START(connection, alone, ticket);
+    }
+    EXPECT_SAID(ticket, UMBRELNIC_REJECTED, NO_OCTETS, hears[profile][REJECTED]);
+}
+
+/* M-105: in a line each letter of a mechanism's name may be small. All spellings of two names, those in capitals and in small letters among them. */
+static void auth_in_every_spelling(void) {
+    static const char *const names[] = {"PLAIN", "CRAM-MD5"};
+    make_server();
+    const uint64_t connections[] = {open_smtp(), open_pop3()};
+    for (size_t i = 0; i < COUNT(names); i++) {
+        struct text name = of_string(names[i]);
+        for (unsigned small = 0; small < 1u << name.size; small++) {
+            uint8_t spelled[8];
+            for (size_t at = 0; at < name.size; at++) {
+                bool letter = 'A' <= name.octets[at] && name.octets[at] <= 'Z';
+                spelled[at] = name.octets[at] | (letter && small >> at & 1 ? 0x20 : 0);
+            }
+            for (uint64_t profile = 0; profile < 2; profile++) {
+                expect_found(profile, connections[profile], (struct text){spelled, name.size}, i == 0);
+            }
+        }
+    }
+}
+
+/* What a client hears whose AUTH line has this octet at some place of a name, in place of the capital that belongs there. */
+static enum reply heard_of(uint8_t octet, uint8_t belongs) {
+    bool small = 'a' <= octet && octet <= 'z';
+    uint8_t capital = small ? octet - 'a' + 'A' : octet;
+    if (octet == '\0' || octet == '\r' || octet == '\n') {
+        return NOT_UNDERSTOOD;
+    }
+    if (capital == belongs) {
+        return EMPTY_CHALLENGE;
+    }
+    return strchr("ABCDEFGHIJKLMNOPQRSTUVWXYZ0123456789-_", capital) != NULL ? UNAVAILABLE : SYNTAX;
+}
+
+/* Each octet at each place of a name in small letters: those beside the letters ("@", "[", "`", "{"), the same letters with a bit
+   more (80-FF), and "." among them. A space ends the name, and what follows is no base64. */
+static void auth_with_each_octet_in_a_name(void) {
+    static const char name[] = "plain";
+    make_server();
+    const uint64_t connections[] = {open_smtp(), open_pop3()};
+    for (size_t at = 0; at < strlen(name); at++) {
+        for (int octet = 0; octet < 256; octet++) {
+            uint8_t other[sizeof name];
+            memcpy(other, name, sizeof name);
+            other[at] = (uint8_t)octet;
+            enum reply reply = heard_of((uint8_t)octet, (uint8_t)(name[at] - 'a' + 'A'));
+            for (uint64_t profile = 0; profile < 2; profile++) {
+                EXPECT_REPLY(connections[profile], auth_line(other, strlen(name), NO_OCTETS), hears[profile][reply]);
+                if (reply == EMPTY_CHALLENGE) {
+                    EXPECT_REPLY(connections[profile], T("*"), hears[profile][CANCELLED]);
+                }
+            }
+        }
     }
 }
 
@@ -309,6 +388,8 @@ int main(void) {
         TEST(auth_at_the_wrong_moment),
         TEST(auth_grammar),
         TEST(auth_without_a_mechanism_of_its_name),
+        TEST(auth_in_every_spelling),
+        TEST(auth_with_each_octet_in_a_name),
         TEST(eight_mechanisms_are_told_apart),
         TEST(protection),
         TEST(a_server_without_mechanisms),

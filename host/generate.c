@@ -80,10 +80,19 @@ static void put_verb(void) {
     PUT_ONE_OF(arguments);
 }
 
+/* A mechanism's name, in one of four lines with some of its letters small. */
+static void put_spelled(const char *name) {
+    bool turns = draw(4) == 0;
+    for (; *name != '\0'; name++) {
+        bool capital = 'A' <= *name && *name <= 'Z';
+        put_octet((uint8_t)(turns && capital && draw(2) == 0 ? *name - 'A' + 'a' : *name));
+    }
+}
+
 static void put_auth(void) {
     static const char *const verbs[] = {"AUTH ", "AUTH ", "AUTH ", "auth ", "AUTH  ", "AUTH\t"};
     put(draw(4) != 0 ? verbs[0] : ONE_OF(verbs));
-    put(mechanism_names[draw(3) == 0 ? draw(MECHANISM_NAMES) : draw(3)]);
+    put_spelled(mechanism_names[draw(3) == 0 ? draw(MECHANISM_NAMES) : draw(3)]);
     size_t form = draw(8);
     if (form < 4) {
         put(" ");

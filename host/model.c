@@ -352,9 +352,7 @@ static bool auth_at_wrong_moment(const uint8_t *slot) {
 
 /* The mechanism that an AUTH line names, if it can be had on this connection. */
 static const uint8_t *available(const struct event_line *event, const struct model_auth *auth) {
-    uint8_t padded[UMBRELNIC_LONGEST_MECHANISM] = {0};
-    memcpy(padded, auth->mechanism, auth->mechanism_octets);
-    const uint8_t *mechanism = find_mechanism(event->image, event->image[MECHANISM_COUNT], padded);
+    const uint8_t *mechanism = find_mechanism(event->image, event->image[MECHANISM_COUNT], auth->mechanism);
     if (mechanism == NULL || (mechanism[NEEDS_PROTECTION] == 1 && event->slot[PROTECTED] == 0)) {
         return NULL;
     }

@@ -165,14 +165,20 @@ enum model_verb model_verb(const uint8_t *line, size_t size) {
 
 /* --- AUTH --- */
 
-enum { LONGEST_MECHANISM = 20 };
-
 bool model_is_mechanism(const uint8_t *name, size_t size) {
     size_t count = 0;
     while (count < size && model_is_mechanism_octet(name[count])) {
         count++;
     }
-    return 1 <= size && size <= LONGEST_MECHANISM && count == size;
+    return 1 <= size && size <= MODEL_LONGEST_MECHANISM && count == size;
+}
+
+/* M-105: in a line the small letters of a mechanism are read as capitals, and then its form is looked at. */
+static bool read_mechanism(struct model_auth *auth, const uint8_t *word, size_t size) {
+    for (size_t i = 0; i < size && i < MODEL_LONGEST_MECHANISM; i++) {
+        auth->mechanism[i] = capital(word[i]);
+    }
+    return size <= MODEL_LONGEST_MECHANISM && model_is_mechanism(auth->mechanism, size);
 }
 
 static size_t to_space(const uint8_t *line, size_t size, size_t from) {
@@ -202,9 +208,7 @@ struct model_auth model_read_auth(const uint8_t *line, size_t size) {
         return auth;
     }
     size_t end = to_space(line, size, start);
-    auth.mechanism = line + start;
-    auth.mechanism_octets = end - start;
-    if (!model_is_mechanism(auth.mechanism, auth.mechanism_octets)) {
+    if (!read_mechanism(&auth, line + start, end - start)) {
         return auth;
     }
     auth.good = end == size || read_initial(&auth, line + end + 1, size - end - 1);

@@ -33,16 +33,16 @@ static inline bool model_is_mechanism_octet(uint8_t octet) {
     return kinds != 0;
 }
 
+enum { MODEL_LONGEST_MECHANISM = 20 };
 bool model_is_mechanism(const uint8_t *name, size_t size);
 
 /* How many octets at the start may stand in a name that a connection signs in with. */
 size_t model_name_octets(const uint8_t *octets, size_t size);
 
-/* A line whose verb is AUTH. The base64 of an initial response is empty for "=". */
+/* A line whose verb is AUTH. The mechanism's name is in capitals and padded with NUL. The base64 of an initial response is empty for "=". */
 struct model_auth {
     bool good;
-    const uint8_t *mechanism;
-    size_t mechanism_octets;
+    uint8_t mechanism[MODEL_LONGEST_MECHANISM];
     bool initial;
     const uint8_t *text;
     size_t text_octets;

@@ -48,8 +48,8 @@ static void line_not_understood(void) {
 
 static void syntax_error(void) {
     make_server();
-    EXPECT_REPLY(open_smtp(), T("AUTH plain"), "501 5.5.2 Syntax error");
-    EXPECT_REPLY(open_pop3(), T("AUTH plain"), "-ERR Syntax error");
+    EXPECT_REPLY(open_smtp(), T("AUTH plain."), "501 5.5.2 Syntax error");
+    EXPECT_REPLY(open_pop3(), T("AUTH plain."), "-ERR Syntax error");
     EXPECT_REPLY(awaiting(UMBRELNIC_SMTP), T("Zh=="), "501 5.5.2 Syntax error");
     EXPECT_REPLY(awaiting(UMBRELNIC_POP3), T("Zh=="), "-ERR Syntax error");
 }

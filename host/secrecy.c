@@ -77,13 +77,13 @@ static struct trace sign_in_by(struct text initial, struct text answer, uint64_t
     note_verdict(&trace, ticket, verdict, name);
     note_who(&trace, smtp);
     note_line(&trace, smtp, T("MAIL FROM:<> AUTH=a@b"));
-    note_line(&trace, pop3, T("AUTH PLAIN"));
+    note_line(&trace, pop3, T("AUTH plain"));
     ticket = note_line(&trace, pop3, answer);
     note_verdict(&trace, ticket, verdict, name);
     note_who(&trace, pop3);
     /* one that stands on a line which is at the wrong moment, unavailable or not allowed */
     note_line(&trace, smtp, joined(T("AUTH PLAIN "), initial));
-    note_line(&trace, pop3, joined(T("AUTH NOSUCH "), initial));
+    note_line(&trace, pop3, joined(T("AUTH NoSuch "), initial));
     note_line(&trace, pop3, joined(T("AUTH CRAM-MD5 "), initial));
     return trace;
 }
@@ -137,6 +137,7 @@ static void some_step(struct trace *trace) {
     static const char *const others[] = {
         "NOOP", "*", "AUTH PLAIN", "AUTH CRAM-MD5", "EHLO a", "MAIL FROM:<> AUTH=a@b", "RSET", "AUTH PLAIN Zh==", "AUTH x",
     };
+    static const char *const starts[] = {"AUTH PLAIN ", "AUTH PLAIN ", "AUTH pLaIn ", "AUTH CRAM-MD5 "};
     uint64_t connection = 1 + draw(7);
     const uint8_t *slot = slot_of(connection);
     if (slot != NULL && slot[PHASE] == WAITING && draw(4) != 0) {
@@ -145,7 +146,7 @@ static void some_step(struct trace *trace) {
     } else if (slot != NULL && slot[PHASE] == AWAITING && draw(8) != 0) {
         note_line(trace, connection, some_answer());
     } else if (draw(3) == 0) {
-        note_line(trace, connection, joined(draw(4) == 0 ? T("AUTH CRAM-MD5 ") : T("AUTH PLAIN "), some_answer()));
+        note_line(trace, connection, joined(of_string(starts[draw(COUNT(starts))]), some_answer()));
     } else if (draw(12) == 0) {
         note_who(trace, connection);
     } else if (draw(40) == 0) {

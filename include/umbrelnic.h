@@ -134,8 +134,8 @@ uint64_t umbrelnic_image_octets(void);
 /* Makes a desk with no mechanism and no connection, whatever the image held before. Refused: 20 (by its length alone). */
 uint64_t umbrelnic_make(uint8_t *image, size_t image_octets, uint64_t connection, uint64_t ticket);
 
-/* Adds a mechanism: its name, in capitals; whether the client speaks first; whether it is offered on protected connections only.
-   Refused: 20, 5, 11, 8, 9, 10. */
+/* Adds a mechanism: its name, in capitals; whether the client speaks first; whether it is offered on protected connections only. Clients
+   may write the name with small letters too. Refused: 20, 5, 11, 8, 9, 10. */
 uint64_t umbrelnic_add(uint8_t *image, size_t image_octets, const uint8_t *name, size_t name_octets, uint64_t client_first,
                        uint64_t needs_protection);
 

@@ -191,16 +191,16 @@ REPLIES = [
     ("mechanism absent", "504 5.5.4 Mechanism not available", "same"),
 ]
 BOTH = "smtp", "pop3"
-AUTH = re.compile(rb"(?i:AUTH) ([A-Z0-9_-]{1,20})(?: (.+))?", re.DOTALL)
+AUTH = re.compile(rb"(?i:AUTH) ([A-Za-z0-9_-]{1,20})(?: (.+))?", re.DOTALL)
 MAIL = re.compile(rb"(?i:MAIL FROM:)<[^>]*>((?: [A-Za-z0-9][A-Za-z0-9-]*(?:=[!-<>-~]+)?)*)", re.DOTALL)
 
 
 def read_auth(line):
-    """Shown numbers, and what the line has beside them; None where it is malformed."""
+    """Shown numbers, and what the line has beside them, the mechanism in capitals (M-105); None where it is malformed."""
     match = AUTH.fullmatch(line)
     if not match:
         return None
-    name, text = match[1], match[2]
+    name, text = match[1].upper(), match[2]
     if text is None:
         return f"AUTH up to {match.end(1)}", [name.ljust(20, b"\0")]
     octets = b"" if text == b"=" else base64_decoded(text)
@@ -326,8 +326,13 @@ def line_cases():
     with_each("pop3", b"USER ", 4)
     each_line(BOTH, b"AUTH PLAIN dGVzdAB0ZXN0ADEyMzQ=|AUTH PLAIN|AUTH CRAM-MD5|AUTH EXTERNAL =|AUTH PLAIN dGVzdAB0ZXN0AHRlc3Q=|AUTH DIGEST-MD5|AUTH PLAIN Zm9v|auth X_Y-9 Zg==|AUTH ABCDEFGHIJKLMNOPQRST|AUTH 0")
     each_line(BOTH, b"AUTH|AUTH |AUTH  PLAIN|AUTH PLAIN |AUTH PLAIN  Zm9v|AUTH PLAIN Zm9v |AUTH PLAIN Zm9v x|AUTH PLAIN ==|AUTH PLAIN =A|AUTH PLAIN *|AUTH PLAIN Zh==|AUTH PLAIN Zm9|AUTH NOSUCH !!")
-    each_line(BOTH, b"AUTH plain|AUTH PL.AIN|AUTH PLAIN\t|AUTH =|AUTH ABCDEFGHIJKLMNOPQRSTU|AUTH ABCDEFGHIJKLMNOPQRSTU Zm9v|AUTHX PLAIN|AUTHPLAIN")
+    each_line(BOTH, b"AUTH plain|AUTH pLaIn Zg==|AUTH PLAIn =|auth cram-md5|AUTH Cram-Md5 Zm9v|auth x_y-9 =|AUTH nosuch|AUTH azAZ|AUTH abcdefghijklmnopqrst")
+    each_line(BOTH, b"AUTH plain.|AUTH pl@in|AUTH pl[in|AUTH pl`in|AUTH pl{in|AUTH pl\xc1in|AUTH pl\xe1in|AUTH \x80lain|AUTH plai\xff|"
+                    b"AUTH plain |AUTH plain !|AUTH nosuch !!|AUTH abcdefghijklmnopqrstu|AUTH abcdefghijklmnopqrstu Zm9v")
+    each_line(BOTH, b"AUTH PL.AIN|AUTH PLAIN\t|AUTH =|AUTH ABCDEFGHIJKLMNOPQRSTU|AUTH ABCDEFGHIJKLMNOPQRSTU Zm9v|AUTHX PLAIN|AUTHPLAIN")
     with_each("smtp", b"AUTH PLAIN", 9)
+    with_each("pop3", b"AUTH plain", 5)
+    with_each("smtp", b"AUTH cram-md5", 12)
     with_each("pop3", b"AUTH PLAIN Zm9v", 14)
     long_line("smtp", b"AUTH PLAIN ", 507)
     long_line("smtp", b"AUTH PLAIN ", 511)

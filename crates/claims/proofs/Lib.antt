@@ -5,6 +5,7 @@ pub mod Responses
 pub mod Steps
 pub mod Tells
 pub mod Secrecy
+pub mod Spellings
 pub mod Taken
 pub mod Others
 pub mod Refusals

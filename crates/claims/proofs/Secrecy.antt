@@ -18,7 +18,7 @@ use Rattle.session.specs.View.{view}
 use Rattle.session.specs.declared.answer.Answer.{Answer}
 use Rattle.session.specs.declared.answer.Answer.the-variants as Answers
 use Rattle.session.specs.declared.view.View.{View}
-use Rattle.session.proofs.Laws.{line-measures}
+use Rattle.session.proofs.Laws.{same-view, line-measures}
 use Rattle.server.specs.Line.{isQuery, lineStep, lineFound, onLine, responseFound, responseOn}
 use Rattle.server.specs.Mechanisms.{offered}
 use Rattle.server.specs.Outcome.{answered, Outcome, refuses, settled}
@@ -42,7 +42,7 @@ use Rattle.claims.proofs.Tells.{told-on}
 
 line-found : (s : Server) {l k : List ℕ} (x : Option Connection) → LinesAlike (foundStands x) l k → lineFound s l x ≡ lineFound s k x
 line-found s none h = refl
-line-found s (some c) h = same-line s c h
+line-found s (some c) h = same-line s c (same-view (c .session) h)
 
 line-lent : (o : Option Server) (n : ℕ) (l k : List ℕ) → LinesAlike (serverStands o n) l k → onLent o (Requests.line n l) ≡ onLent o (Requests.line n k)
 unfolding on onLine
@@ -71,7 +71,7 @@ module _ (i : Image) where
 
 -- ---- a query's octets
 
-queried-settled : (a : Answer) (h x : List ℕ) (z : Server) → isQueried (resultIn (settled a (answered a h x) z)) ≡ isQuery a
+pub queried-settled : (a : Answer) (h x : List ℕ) (z : Server) → isQueried (resultIn (settled a (answered a h x) z)) ≡ isQuery a
 queried-settled (Answers.Refused r) h x z = refl
 queried-settled (Answers.Forward j n) h x z = refl
 queried-settled (Answers.Query t b n) h x z = refl
@@ -79,7 +79,7 @@ queried-settled (Answers.Reply e) h x z = refl
 queried-settled Answers.EmptyChallenge h x z = refl
 queried-settled Answers.Challenge h x z = refl
 
-query-valid : (v : View) (l : List ℕ) (t : ℕ) (a : Answer) → Measures v l t a → isQuery a ≡ true → Base64.valid (responseText v l) ≡ true
+pub query-valid : (v : View) (l : List ℕ) (t : ℕ) (a : Answer) → Measures v l t a → isQuery a ≡ true → Base64.valid (responseText v l) ≡ true
 query-valid v l t (Answers.Refused r) m e = absurd (false≢true e)
 query-valid v l t (Answers.Forward j n) m e = absurd (false≢true e)
 query-valid v l t (Answers.Query u b n) m e = m .valid
@@ -103,7 +103,7 @@ module _ (n : ℕ) (l k : List ℕ) (j : ℕ) (g : lettersOf j (responseIn l) �
   octet-lent (some s) h e = octet-found s (found (isNumbered n) (s .slots)) h e
 
 -- a call that was not refused for its buffers
-queried-long : (b : Bool) (o : Outcome) → isQueried (resultIn (cond b (refuses Refusals.ShortBuffer) o)) ≡ true → isQueried (resultIn o) ≡ true
+pub queried-long : (b : Bool) (o : Outcome) → isQueried (resultIn (cond b (refuses Refusals.ShortBuffer) o)) ≡ true → isQueried (resultIn o) ≡ true
 queried-long true o e = absurd (false≢true e)
 queried-long false o e = e
 

@@ -18,8 +18,8 @@ use Rattle.mail.specs.Mail as Mails
 use Rattle.mail.specs.Parameter as Parameters
 use Rattle.mail.specs.Address as Addresses
 use Rattle.profile.specs.Texts.{words, reply}
-use Rattle.lines.specs.Alike.{Alike}
-use Rattle.lines.specs.Auth.{initial, arguments, auth}
+use Rattle.lines.specs.Alike.{Alike, SpelledAlike, initial}
+use Rattle.lines.specs.Auth as Auths
 use Rattle.lines.specs.Command.{forbidden, understood, command}
 use Rattle.lines.specs.Mechanism.{padded}
 use Rattle.lines.specs.Response.{response}
@@ -66,6 +66,7 @@ use Rattle.claims.proofs.Served.{later, Plain, lent-plain, outcome-plai
 use Rattle.claims.specs.Witnesses.{Buffers, LongEnough, shown, gave, example, exampleShows, SignsIn, lateVerdict, lateVerdictShows, LateVerdict}
 use Rattle.claims.specs.Witnesses.{signIns, signInsShow, sesame, tomato, plain, PasswordsAlike}
 use Rattle.claims.specs.Witnesses.{greets, fails, goesOn, failedExchangeShows, FailedExchange}
+use Rattle.claims.specs.Witnesses.{smallLetters, smallLettersShow, SmallLetters}
 use Rattle.claims.proofs.Follows.{look}
 use Rattle.claims.proofs.Others.{has-taken, stands-taken}
 use Rattle.claims.proofs.Tells.{told-stands}
@@ -174,7 +175,7 @@ module _ (b : Buffers) (l : LongEnough b) where
 
 computes : Unit {0}
 unfolding fresh on onAdd onOpen onLine onVerdict onWho onClose anyFree found replaced offered responseOn padded every oneTo same before after
-    paddedTo capital words reply verb verbOf initial arguments auth forbidden understood command response viewIn heard nameOf queryOctets relayOctets
+    paddedTo capital words reply verb verbOf Auths.initial Auths.arguments Auths.auth forbidden understood command response viewIn heard nameOf queryOctets relayOctets
     onAuth onMail onCommand onResponse afterLine Verdicts.onVerdict Verdicts.afterVerdict Base64.alphabet Base64.letter Base64.value Base64.groupOf
     Base64.valid Base64.octets Base64.encode Mails.opens Mails.pathEnds Mails.rest Mails.words Mails.count Mails.allGood Mails.said Mails.identity
     Mails.wellFormed Mails.mailAt Mails.mail Parameters.keyword Parameters.value Parameters.parameter Parameters.named Parameters.authValue
@@ -473,3 +474,37 @@ module _ (i : Image) (b : Buffers) (e : length i ≡ imageSize) (l : LongEnough 
 
 pub failed-exchange : FailedExchange
 failed-exchange i b e l = record { greeted = greeted-first i b e l; inExchange = fails-in-exchange i b e l; shows = fails-show i b e l }
+
+-- ---- small letters
+
+small-requests : List Request
+small-requests =
+    Requests.add (ascii "plain") 1 1
+    ∷ Requests.add (ascii "PLAIN") 1 1
+    ∷ Requests.opens 0 1
+    ∷ Requests.line 1 (ascii "EHLO a.example")
+    ∷ Requests.line 1 (ascii "AUTH nosuch")
+    ∷ Requests.line 1 (ascii "AUTH plain.")
+    ∷ Requests.line 1 (ascii "AUTH abcdefghijklmnopqrstu")
+    ∷ Requests.line 1 (ascii "AUTH pLaIn Zm9v")
+    ∷ Requests.verdict 1 1 (ascii "anna")
+    ∷ Requests.who 1
+    ∷ []
+
+small-computed : gave done ∷ all-show (fresh 1 1) small-requests ≡ smallLettersShow
+unfolding small-requests computes
+small-computed = refl
+
+plain-spelled : SpelledAlike (ascii "AUTH pLaIn Zm9v") (ascii "AUTH PLAIN Zm9v")
+unfolding capital
+plain-spelled = initial (ascii "AUTH") (ascii "AUTH") (ascii "pLaIn") (ascii "PLAIN") (ascii "Zm9v") refl refl refl refl
+
+pub small-letters : SmallLetters
+unfolding small-requests
+small-letters i b e l =
+    let two = long-two b l in
+    let lines : Plains (drop 4 (smallLetters b)) = ((refl, two), ((refl, two), ((refl, two), ((refl, two), ((refl, two), ((refl, two), ((refl, long-name b l), tt))))))) in
+    record {
+      alike = plain-spelled;
+      shows = made-shows i e (drop 1 (smallLetters b)) ((refl, refl), ((refl, refl), ((refl, refl), lines))) ∙ small-computed;
+    }

@@ -8,6 +8,7 @@ pub mod Relays
 pub mod Numbers
 pub mod Others
 pub mod Sessions
+pub mod Spellings
 pub mod Exchanges
 pub mod Refusals
 pub mod Taken

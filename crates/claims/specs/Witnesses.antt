@@ -1,5 +1,5 @@
--- The claims are not empty: document 01's example signs in, a late verdict signs nobody in, two lists of calls that differ in passwords meet the
--- premise of the third demand, and exchanges that fail that of what an exchange leaves.
+-- The claims are not empty: document 01's example signs in, and so does a mechanism in small letters; a late verdict signs nobody in, two lists of
+-- calls that differ in passwords meet the premise of the third demand, and exchanges that fail that of what an exchange leaves.
 use mathlib.Core.Path.{_≡_}
 use mathlib.Core.Bool.{false, true}
 use mathlib.Core.List.{List, [], _∷_, _++_, map}
@@ -8,6 +8,7 @@ use Prim.Native.Nat.{ℕ, _≤_}
 use Prim.Native.String.{String}
 use lib.ListN.{length}
 use Rattle.octets.specs.Ascii.{ascii}
+use Rattle.lines.specs.Alike.{SpelledAlike}
 use Rattle.profile.specs.Texts.{crlf}
 use Rattle.profile.specs.declared.Reply.{Reply}
 use Rattle.profile.specs.declared.Reply.the-variants as Replies
@@ -249,3 +250,44 @@ pub record ExchangesFail (i : Image) (b : Buffers) : Type 0 where
 
 abbrev pub FailedExchange : Type 0
 FailedExchange = (i : Image) (b : Buffers) → length i ≡ imageSize → LongEnough b → ExchangesFail i b
+
+-- M-105: small letters. No mechanism is added by a name that has them. A client who names by them one that is not there hears 504, with a dot or
+-- 21 letters 501; one who writes PLAIN with some signs in
+module _ (b : Buffers) where
+  abbrev pub smallLetters : List Call
+  smallLetters =
+      make 1 1
+      ∷ add (ascii "plain") 1 1
+      ∷ add (ascii "PLAIN") 1 1
+      ∷ opens 0 1
+      ∷ says b 1 "EHLO a.example"
+      ∷ says b 1 "AUTH nosuch"
+      ∷ says b 1 "AUTH plain."
+      ∷ says b 1 "AUTH abcdefghijklmnopqrstu"
+      ∷ says b 1 "AUTH pLaIn Zm9v"
+      ∷ succeeds b 1 "anna"
+      ∷ who 1 (b .name)
+      ∷ []
+
+abbrev pub smallLettersShow : List (Result × List ℕ)
+smallLettersShow =
+    gave done
+    ∷ gave (refused Refusals.BadName)
+    ∷ gave done
+    ∷ gave (opened 1)
+    ∷ gave (answered (Answers.Forward Identities.NoMail 0) [] [])
+    ∷ hears Replies.Unavailable "504 5.5.4 Mechanism not available"
+    ∷ hears Replies.Syntax "501 5.5.2 Syntax error"
+    ∷ hears Replies.Syntax "501 5.5.2 Syntax error"
+    ∷ (answered (Answers.Query 1 false 3) [] [], ascii "foo")
+    ∷ hears Replies.Success "235 2.7.0 Authentication succeeded"
+    ∷ gave (borne (some (ascii "anna")))
+    ∷ []
+
+-- its line and the example's meet the premise of `SpellingsServed`
+pub record SignsInSmall (i : Image) (b : Buffers) : Type 0 where
+  pub alike : SpelledAlike (ascii "AUTH pLaIn Zm9v") (ascii "AUTH PLAIN Zm9v")
+  pub shows : map shown (run i (smallLetters b)) ≡ smallLettersShow
+
+abbrev pub SmallLetters : Type 0
+SmallLetters = (i : Image) (b : Buffers) → length i ≡ imageSize → LongEnough b → SignsInSmall i b

@@ -4,14 +4,13 @@ use mathlib.Core.Bool.{Bool, true, false, cond, _||_, false≢true}
 use mathlib.Core.List.{List, [], _∷_, _++_, append-assoc, map-append}
 use Prim.Native.Nat.{ℕ, _+_, _-_}
 use native.Mathlib.Omega.{arith}
-use borrow.Author.Tests.{ne-eqb, eqb-false}
 use lib.Dec.{ltb, eqb}
 use lib.ListN.{length, take, drop, length-append, length-map}
 use lib.Seq.{take-at, drop-at, drop-drop}
 use Rattle.octets.specs.Ascii.{ascii, capital, capitals}
 use Rattle.octets.specs.Lists.{isEmpty, holds, same}
 use Rattle.octets.specs.declared.Measured.{Measured}
-use Rattle.octets.proofs.Cases.{neither, split}
+use Rattle.octets.proofs.Cases.{split}
 use Rattle.octets.proofs.Lists.{cut}
 use Rattle.octets.proofs.Words.{same-apart, before-cut, after-cut, holds-cut}
 use Rattle.base64.specs.Base64.{valid, measured}
@@ -19,7 +18,7 @@ use Rattle.base64.proofs.Laws.{same-measure, clean}
 use Rattle.profile.specs.Limits.{responseLimit}
 use Rattle.profile.specs.declared.Profile.{Profile}
 use Rattle.profile.specs.declared.Profile.the-variants.{Smtp, Pop3}
-use Rattle.lines.specs.Mechanism.{mechanism}
+use Rattle.lines.specs.Mechanism.{spelling}
 use Rattle.lines.specs.Verb.{space, verb, verbOf}
 use Rattle.lines.specs.Auth.{auth, arguments, initial, given, nameText}
 use Rattle.lines.specs.Response.{response, decoding}
@@ -30,7 +29,7 @@ use Rattle.lines.specs.declared.auth.Auth.the-variants.{Malformed, Initi
 use Rattle.lines.specs.declared.verb.Verb.the-variants as Verbs
 use Rattle.lines.specs.declared.response.Response.the-variants as Responses
 use Rattle.lines.specs.declared.command.Command.the-variants as Commands
-use Rattle.lines.proofs.Lists.{holds-end, same-empty}
+use Rattle.lines.proofs.Lists.{holds-end, holds-capitals, same-empty}
 
 -- base64 is neither "*" nor "="
 not-star : (r : List ℕ) → valid r ≡ true → same r (ascii "*") ≡ false
@@ -58,7 +57,7 @@ same-response p r s a =
     ∙ sym (text-response p s (a .right))
 
 -- of a line with a space, which is neither "*" nor base64, only its length counts
-spaced : (p : Profile) (l : List ℕ) → holds space l ≡ true → response p l ≡ cond (ltb (responseLimit p) (length l)) Responses.TooLong Responses.Malformed
+pub spaced : (p : Profile) (l : List ℕ) → holds space l ≡ true → response p l ≡ cond (ltb (responseLimit p) (length l)) Responses.TooLong Responses.Malformed
 unfolding response
 spaced p l h =
     let s : same l (ascii "*") ≡ false = same-apart l (ascii "*") (λ e. false≢true (sym (ap (holds space) e) ∙ h)) in
@@ -79,20 +78,20 @@ module _ (a : List ℕ) (e : capitals a ≡ ascii "AUTH") (x : List ℕ) where
   five : length (a ++ (space ∷ [])) ≡ 5
   five = simp length-append (omega (arith, length-map a capital, ap length e))
 
-  first-five : capitals (take 5 (a ++ (space ∷ x))) ≡ ascii "AUTH "
+  pub first-five : capitals (take 5 (a ++ (space ∷ x))) ≡ ascii "AUTH "
   unfolding capital
   first-five =
       let z : take 5 (a ++ (space ∷ x)) ≡ a ++ (space ∷ []) = rw (← (append-assoc a (space ∷ []) x)) (take-at (a ++ (space ∷ [])) x 5 five) in
       ap capitals z ∙ map-append capital a (space ∷ []) ∙ ap (λ (l : List ℕ). l ++ (space ∷ [])) e
 
-  after-five : drop 5 (a ++ (space ∷ x)) ≡ x
+  pub after-five : drop 5 (a ++ (space ∷ x)) ≡ x
   after-five = rw (← (append-assoc a (space ∷ []) x)) (drop-at (a ++ (space ∷ [])) x 5 five)
 
-  auth-line : auth (a ++ (space ∷ x)) ≡ arguments x
+  pub auth-line : auth (a ++ (space ∷ x)) ≡ arguments x
   unfolding auth same
   auth-line = rw (first-five, after-five)
 
-arguments-line : (m r : List ℕ) → holds space m ≡ false → arguments (m ++ (space ∷ r)) ≡ cond (mechanism m) (initial (5 + length m) r) Malformed
+arguments-line : (m r : List ℕ) → holds space m ≡ false → arguments (m ++ (space ∷ r)) ≡ cond (spelling m) (initial (5 + length m) r) Malformed
 unfolding arguments
 arguments-line m r h = rw (before-cut space m r h, after-cut space m r h, holds-cut space m r)
 
@@ -112,7 +111,7 @@ pub same-auth : (a m r s : List ℕ) → Alike r s → holds space m ≡ false �
 same-auth a m r s k h e =
     auth-line a e (m ++ (space ∷ r))
     ∙ arguments-line m r h
-    ∙ ap (λ (x : Auth). cond (mechanism m) x Malformed) (same-initial (5 + length m) r s k)
+    ∙ ap (λ (x : Auth). cond (spelling m) x Malformed) (same-initial (5 + length m) r s k)
     ∙ sym (arguments-line m s h)
     ∙ sym (auth-line a e (m ++ (space ∷ s)))
 
@@ -127,9 +126,9 @@ name-line a m r e =
 
 named : (b c : Bool) (to : ℕ) (x : Measured) (l k : List ℕ) → drop 5 (take to l) ≡ drop 5 (take to k)
     → nameText (cond b (Initial to (to + 2) 0) (cond c Malformed (given to x))) l ≡ nameText (cond b (Initial to (to + 2) 0) (cond c Malformed (given to x))) k
-named true c to x l k e = e
+named true c to x l k e = ap capitals e
 named false true to x l k e = refl
-named false false to (Measured.Length n) l k e = e
+named false false to (Measured.Length n) l k e = ap capitals e
 named false false to Measured.Malformed l k e = refl
 
 name-initial : (b : Bool) (to : ℕ) (r l k : List ℕ) → drop 5 (take to l) ≡ drop 5 (take to k)
@@ -142,7 +141,7 @@ pub same-name-text : (a m r s : List ℕ) → Alike r s → holds space m ≡ fa
     → nameText (auth (authLine a m r)) (authLine a m r) ≡ nameText (auth (authLine a m s)) (authLine a m s)
 same-name-text a m r s k h e =
     let n = name-line a m r e ∙ sym (name-line a m s e) in
-    rw (auth-line a e (m ++ (space ∷ r)), arguments-line m r h) (name-initial (mechanism m) (5 + length m) r (authLine a m r) (authLine a m s) n)
+    rw (auth-line a e (m ++ (space ∷ r)), arguments-line m r h) (name-initial (spelling m) (5 + length m) r (authLine a m r) (authLine a m s) n)
     ∙ ap (λ (x : Auth). nameText x (authLine a m s)) (same-auth a m r s k h e)
 
 -- and the text that it points to is the response
@@ -164,16 +163,12 @@ pub initial-text : (a m r : List ℕ) (to from n : ℕ) → capitals a ≡ ascii
     → auth (authLine a m r) ≡ Initial to from n → drop from (authLine a m r) ≡ r
 initial-text a m r to from n e h v f =
     let g = sym (arguments-line m r h) ∙ sym (auth-line a e (m ++ (space ∷ r))) ∙ f in
-    let z = after-space (mechanism m) (isEmpty r) (measured r) (5 + length m) to from n (rw (text-initial (5 + length m) r v) at g) in
+    let z = after-space (spelling m) (isEmpty r) (measured r) (5 + length m) to from n (rw (text-initial (5 + length m) r v) at g) in
     rw z (text-line a m r e)
 
 -- a word without a space in capitals has none
 pub spaceless : (l : List ℕ) → holds space (capitals l) ≡ false → holds space l ≡ false
-unfolding capital
-spaceless [] h = refl
-spaceless (x ∷ l) h =
-    let k = neither (eqb (capital x) space) (holds space (capitals l)) h in
-    rw (ne-eqb x space (λ e. eqb-false (capital x) space (k .0) (ap capital e)), spaceless l (k .1))
+spaceless l h = sym (holds-capitals space (omega arith) l) ∙ h
 
 verb-line : (a x : List ℕ) → capitals a ≡ ascii "AUTH" → verbOf (verb (a ++ (space ∷ x))) ≡ Verbs.Auth
 unfolding verb verbOf same

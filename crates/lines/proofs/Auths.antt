@@ -12,7 +12,7 @@ use Rattle.octets.specs.Lists.{isEmpty, same, before, after, holds}
 use Rattle.octets.proofs.Lists.{cut, to-end}
 use Rattle.octets.proofs.Words.{before-take, after-drop, holds-before}
 use Rattle.base64.specs.Base64.{measured}
-use Rattle.lines.specs.Mechanism.{mechanism}
+use Rattle.lines.specs.Mechanism.{spelling}
 use Rattle.lines.specs.Verb.{space}
 use Rattle.lines.specs.Auth.{auth, arguments, initial, given}
 use Rattle.lines.specs.declared.auth.Auth.the-variants.{Malformed, Alone, Initial}
@@ -59,18 +59,18 @@ module _ (l : List ℕ) (to : ℕ) (e : to ≡ 5 + length (before space (drop 5 
       after-drop space (drop 5 l) ∙ drop-drop (suc (length (before space (drop 5 l)))) 5 l ∙ ap (λ (n : ℕ). drop n l) z
 
   module _ (a : same (capitals (take 5 l)) (ascii "AUTH ") ≡ true) where
-    pub no-name : mechanism (slice 5 to l) ≡ false → Malformed ≡ auth l
+    pub no-name : spelling (slice 5 to l) ≡ false → Malformed ≡ auth l
     unfolding auth arguments
     no-name h = rw (a, ← name, h)
 
-    pub alone : mechanism (slice 5 to l) ≡ true → length l ≤ to → Alone to ≡ auth l
+    pub alone : spelling (slice 5 to l) ≡ true → length l ≤ to → Alone to ≡ auth l
     unfolding auth arguments
     alone h k =
         let y : length (drop 5 l) ≤ length (before space (drop 5 l)) = simp length-drop (omega arith) in
         let z : holds space (drop 5 l) ≡ false = holds-before space (drop 5 l) ∙ le-ltb _ _ y in
         rw (a, ← e, ← name, h, z)
 
-    pub more : mechanism (slice 5 to l) ≡ true → to < length l → initial to (drop (to + 1) l) ≡ auth l
+    pub more : spelling (slice 5 to l) ≡ true → to < length l → initial to (drop (to + 1) l) ≡ auth l
     unfolding auth arguments
     more h k =
         let y : length (before space (drop 5 l)) < length (drop 5 l) = simp length-drop (omega arith) in

@@ -1,6 +1,8 @@
 -- The laws of the readings. Assumes nothing.
 -- a reading of a response, and one of an AUTH line, where an exchange runs or none, tells nothing of base64 but its shape
 pub use Rattle.lines.proofs.Alikes.{same-response, spaced-response, same-auth, same-name-text, same-command}
+-- AUTH lines that differ in the case of letters alone are read alike
+pub use Rattle.lines.proofs.Spellings.{ReadAlike, spelled-alike}
 -- a line that begins with AUTH and a space is an AUTH line, or not understood
 pub use Rattle.lines.proofs.Alikes.{command-line, spaceless}
 -- the text that an AUTH line's reading points to is the response

@@ -7,5 +7,6 @@ pub mod Says
 pub mod Responses
 pub mod Commands
 pub mod Alikes
+pub mod Spellings
 pub mod Readings
 pub mod Laws

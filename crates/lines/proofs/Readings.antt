@@ -19,7 +19,7 @@ use Rattle.profile.specs.Limits.{commandLimit, mailLimit, responseLimit}
 use Rattle.profile.specs.declared.Profile.{Profile}
 use Rattle.profile.specs.declared.Profile.the-variants.{Smtp, Pop3}
 use Rattle.mail.specs.Mail.{mail}
-use Rattle.lines.specs.Mechanism.{mechanism}
+use Rattle.lines.specs.Mechanism.{mechanism, spelling}
 use Rattle.lines.specs.Verb.{space, verb, verbOf}
 use Rattle.lines.specs.Auth.{auth, arguments, initial, given, nameText}
 use Rattle.lines.specs.Response.{response, decoding}
@@ -33,14 +33,14 @@ use Rattle.lines.specs.declared.verb.Verb.{Verb}
 use Rattle.lines.specs.declared.verb.Verb.the-variants as Verbs
 use Rattle.lines.proofs.Auths.{name, rest}
 
--- what a reading of an AUTH line points to: a name of a mechanism's form, and base64 of the length told
+-- what a reading of an AUTH line points to: a spelling of a mechanism's name, and base64 of the length told
 data Reads (l : List ℕ) : Auth → Type 0 where
   nothing : Reads l Malformed
-  alone : {to : ℕ} → to ≡ 5 + length (before space (drop 5 l)) → mechanism (before space (drop 5 l)) ≡ true → Reads l (Alone to)
-  more : {to from n : ℕ} → to ≡ 5 + length (before space (drop 5 l)) → mechanism (before space (drop 5 l)) ≡ true → valid (drop from l) ≡ true
+  alone : {to : ℕ} → to ≡ 5 + length (before space (drop 5 l)) → spelling (before space (drop 5 l)) ≡ true → Reads l (Alone to)
+  more : {to from n : ℕ} → to ≡ 5 + length (before space (drop 5 l)) → spelling (before space (drop 5 l)) ≡ true → valid (drop from l) ≡ true
       → n ≡ length (octets (drop from l)) → Reads l (Initial to from n)
 
-module _ (l : List ℕ) (to : ℕ) (e : to ≡ 5 + length (before space (drop 5 l))) (m : mechanism (before space (drop 5 l)) ≡ true) where
+module _ (l : List ℕ) (to : ℕ) (e : to ≡ 5 + length (before space (drop 5 l))) (m : spelling (before space (drop 5 l)) ≡ true) where
   reads-given : (v : Bool) → valid (drop (to + 1) l) ≡ v → Reads l (given to (cond v (Measured.Length (length (octets (drop (to + 1) l)))) Measured.Malformed))
   reads-given true h = more e m h refl
   reads-given false h = nothing
@@ -66,7 +66,7 @@ module _ (l : List ℕ) (to : ℕ) (e : to ≡ 5 + length (before space (drop 5 
   reads-more true = rw (rest l to e) (reads-initial (same (drop (to + 1) l) (ascii "=")) refl)
   reads-more false = alone e m
 
-reads-arguments : (l : List ℕ) (b : Bool) → mechanism (before space (drop 5 l)) ≡ b
+reads-arguments : (l : List ℕ) (b : Bool) → spelling (before space (drop 5 l)) ≡ b
     → Reads l (cond b (cond (holds space (drop 5 l)) (initial (5 + length (before space (drop 5 l))) (after space (drop 5 l))) (Alone (5 + length (before space (drop 5 l))))) Malformed)
 reads-arguments l true h = reads-more l (5 + length (before space (drop 5 l))) refl h (holds space (drop 5 l))
 reads-arguments l false h = nothing
@@ -76,16 +76,16 @@ unfolding auth arguments
 reads l = go (same (capitals (take 5 l)) (ascii "AUTH "))
   where
     go : (b : Bool) → Reads l (cond b (arguments (drop 5 l)) Malformed)
-    go true = reads-arguments l (mechanism (before space (drop 5 l))) refl
+    go true = reads-arguments l (spelling (before space (drop 5 l))) refl
     go false = nothing
 
-alone-told : (l : List ℕ) (to : ℕ) {x : Auth} → Reads l x → x ≡ Alone to → (to ≡ 5 + length (before space (drop 5 l))) × (mechanism (before space (drop 5 l)) ≡ true)
+alone-told : (l : List ℕ) (to : ℕ) {x : Auth} → Reads l x → x ≡ Alone to → (to ≡ 5 + length (before space (drop 5 l))) × (spelling (before space (drop 5 l)) ≡ true)
 alone-told l to nothing e = let z : _≡_ {A = ℕ} 0 1 = cc in absurd (omega arith)
 alone-told l to (alone {to = t} h k) e = let z : to ≡ t = cc in (z ∙ h, k)
 alone-told l to (more h k v w) e = let z : _≡_ {A = ℕ} 0 1 = cc in absurd (omega arith)
 
 initial-told : (l : List ℕ) (to from n : ℕ) {x : Auth} → Reads l x → x ≡ Initial to from n
-    → (to ≡ 5 + length (before space (drop 5 l))) × (mechanism (before space (drop 5 l)) ≡ true) × (valid (drop from l) ≡ true) × (n ≡ length (octets (drop from l)))
+    → (to ≡ 5 + length (before space (drop 5 l))) × (spelling (before space (drop 5 l)) ≡ true) × (valid (drop from l) ≡ true) × (n ≡ length (octets (drop from l)))
 initial-told l to from n nothing e = let z : _≡_ {A = ℕ} 0 1 = cc in absurd (omega arith)
 initial-told l to from n (alone h k) e = let z : _≡_ {A = ℕ} 0 1 = cc in absurd (omega arith)
 initial-told l to from n (more {to = t} {from = f} {n = m} h k v w) e =

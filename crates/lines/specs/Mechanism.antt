@@ -3,7 +3,7 @@ use mathlib.Core.Bool.{Bool, _||_}
 use mathlib.Core.List.{List}
 use Prim.Native.Nat.{ℕ}
 use lib.Dec.{eqb}
-use Rattle.octets.specs.Ascii.{isCapital, isDigit}
+use Rattle.octets.specs.Ascii.{capitals, isCapital, isDigit}
 use Rattle.octets.specs.Lists.{oneTo, paddedTo}
 
 -- "mech-char = UPPER-ALPHA / DIGIT / HYPHEN / UNDERSCORE"
@@ -16,6 +16,10 @@ longestMechanism = 20
 
 abbrev pub mechanism : List ℕ → Bool
 mechanism m = oneTo longestMechanism mechChar m
+
+-- in a line a name's letters may be of either case (M-105): a text spells a name if it is one in capitals
+abbrev pub spelling : List ℕ → Bool
+spelling t = mechanism (capitals t)
 
 -- "Each name is kept in twenty octets, padded with NUL" (document 01)
 unfoldable pub padded : List ℕ → List ℕ

@@ -1,5 +1,5 @@
 -- What an AUTH line says, with no index in it (document 01, "A session's steps"; RFC 4954 section 4, RFC 5034 section 4): AUTH, one space, a
--- mechanism's name, and then nothing, or one space and either "=" or base64 that is not empty.
+-- mechanism's name in letters of either case (M-105), and then nothing, or one space and either "=" or base64 that is not empty.
 use mathlib.Core.Bool.{cond}
 use mathlib.Core.List.{List, []}
 use Prim.Native.Nat.{ℕ}
@@ -8,12 +8,12 @@ use Rattle.octets.specs.Ascii.{ascii, capitals}
 use Rattle.octets.specs.Lists.{isEmpty, holds, same, before, after}
 use Rattle.base64.specs.Base64
 use Rattle.lines.specs.Auth.{nameText, initialText}
-use Rattle.lines.specs.Mechanism.{mechanism}
+use Rattle.lines.specs.Mechanism.{spelling}
 use Rattle.lines.specs.Verb.{space}
 use Rattle.lines.specs.declared.auth.Auth.{Auth}
 use Rattle.lines.specs.declared.auth.Auth.the-variants.{Malformed, Alone, Initial}
 
--- the line is not of the form; it names a mechanism; it names one and has an initial response of these octets
+-- the line is not of the form; it names a mechanism, here in capitals; it names one and has an initial response of these octets
 pub data Says : Type 0 where
   malformed : Says
   alone : List ℕ → Says
@@ -29,7 +29,9 @@ initialSays m t =
 
 unfoldable pub argumentsSay : List ℕ → Says
 argumentsSay r =
-    cond (mechanism (before space r)) (cond (holds space r) (initialSays (before space r) (after space r)) (alone (before space r))) malformed
+    cond (spelling (before space r))
+    (cond (holds space r) (initialSays (capitals (before space r)) (after space r)) (alone (capitals (before space r))))
+    malformed
 
 unfoldable pub authSays : List ℕ → Says
 authSays l = cond (same (capitals (take 5 l)) (ascii "AUTH ")) (argumentsSay (drop 5 l)) malformed

@@ -6,13 +6,13 @@ ghost use Rattle.base64.specs.Base64.{decoded, decodedInto, uncheckedInto};
 ghost use Rattle.lines.specs.Mechanism.{padded};
 ghost use Rattle.lines.specs.Auth.{auth, initial, initialText, nameText};
 use crate::mechanism::LONGEST_MECHANISM;
-use crate::mechanism::is_mechanism;
-use crate::mechanism::name_of;
+use crate::mechanism::is_spelling;
+use crate::mechanism::name_spelled;
 use octets::Decoded;
 use octets::Measured;
 
-// An AUTH line. Alone: the mechanism's name stands from index 5 up to `to`, and nothing follows. Initial: the base64 of an initial
-// response stands from index `from` to the line's end and decodes to so many octets.
+// An AUTH line. Alone: the mechanism's name, in letters of either case, stands from index 5 up to `to`, and nothing follows. Initial: the
+// base64 of an initial response stands from index `from` to the line's end and decodes to so many octets.
 pub enum Auth {
     Malformed,
     Alone {
@@ -33,7 +33,7 @@ pub fn read_auth(line: &[u8]) -> Auth
         return Auth::Malformed;
     }
     let to = octets::find(line, 5, b' ');
-    if !is_mechanism(octets::part(line, 5, to)) {
+    if !is_spelling(octets::part(line, 5, to)) {
         return Auth::Malformed;
     }
     if line.len() <= to {
@@ -69,14 +69,14 @@ fn read_initial(line: &[u8], to: usize) -> Auth
     }
 }
 
-// The name that a reading of a line points to, in twenty octets.
+// The name that a reading of a line points to, in capitals and in twenty octets.
 pub fn name_at(line: &[u8], found: Auth) -> [u8; LONGEST_MECHANISM]
     ensures { λ r. ⌜ r ≡ padded (nameText found (now (line .entry))) ⌝ }
 {
     match found {
-        Auth::Malformed => name_of(octets::part(line, 0, 0)),
-        Auth::Alone { to } => name_of(octets::part(line, 5, to)),
-        Auth::Initial { to, .. } => name_of(octets::part(line, 5, to)),
+        Auth::Malformed => name_spelled(octets::part(line, 0, 0)),
+        Auth::Alone { to } => name_spelled(octets::part(line, 5, to)),
+        Auth::Initial { to, .. } => name_spelled(octets::part(line, 5, to)),
     }
 }
 

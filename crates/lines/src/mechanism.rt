@@ -1,7 +1,9 @@
 // Mechanism names: their form, and the twenty octets in which one is kept and compared.
 ghost use mathlib.Core.Path.{_≡_};
+ghost use Rattle.octets.specs.Ascii.{capitals};
 ghost use Rattle.octets.specs.Lists.{same};
-ghost use Rattle.lines.specs.Mechanism.{mechChar, mechanism, padded};
+ghost use Rattle.lines.specs.Mechanism.{mechChar, mechanism, spelling, padded};
+ghost use Rattle.lines.specs.Private.{nameChar, formed};
 
 // A name has at most so many octets, and is kept in as many.
 pub const LONGEST_MECHANISM: usize = 20;
@@ -13,24 +15,45 @@ pub fn is_mech_char(x: u8) -> bool
     (b'A' <= x) & (x <= b'Z') | (b'0' <= x) & (x <= b'9') | (x == b'-') | (x == b'_')
 }
 
-// Whether a text is of a mechanism name's form.
-pub fn is_mechanism(name: &[u8]) -> bool
-    ensures { λ r. ⌜ r ≡ mechanism (now (name .entry)) ⌝ }
+// The same of a name whose small letters are read as capitals, if they are to be.
+fn is_name_char(x: u8, small: bool) -> bool
+    ensures { λ r. ⌜ r ≡ nameChar small x ⌝ }
 {
-    if name.len() < 1 {
+    is_mech_char(x) | small & (b'a' <= x) & (x <= b'z')
+}
+
+// Whether a text has one to twenty such octets and no other.
+fn is_formed(text: &[u8], small: bool) -> bool
+    ensures { λ r. ⌜ r ≡ formed small (now (text .entry)) ⌝ }
+{
+    if text.len() < 1 {
         return false;
     }
-    if LONGEST_MECHANISM < name.len() {
+    if LONGEST_MECHANISM < text.len() {
         return false;
     }
     let mut i: usize = 0;
-    while i < name.len() {
-        if !is_mech_char(name[i]) {
+    while i < text.len() {
+        if !is_name_char(text[i], small) {
             return false;
         }
         i += 1;
     }
     true
+}
+
+// Whether a text is of a mechanism name's form.
+pub fn is_mechanism(name: &[u8]) -> bool
+    ensures { λ r. ⌜ r ≡ mechanism (now (name .entry)) ⌝ }
+{
+    is_formed(name, false)
+}
+
+// Whether a text spells a name: whether it is of that form with its small letters read as capitals.
+pub fn is_spelling(text: &[u8]) -> bool
+    ensures { λ r. ⌜ r ≡ spelling (now (text .entry)) ⌝ }
+{
+    is_formed(text, true)
 }
 
 // A name in twenty octets, padded with NUL. A longer text, which is no name, is cut.
@@ -39,6 +62,20 @@ pub fn name_of(name: &[u8]) -> [u8; LONGEST_MECHANISM]
 {
     let mut kept = [0u8; LONGEST_MECHANISM];
     octets::write(octets::part(name, 0, LONGEST_MECHANISM), &mut kept, 0);
+    kept
+}
+
+// The name that a text spells, in twenty octets: its small letters as capitals. A longer text, which spells none, is cut.
+pub fn name_spelled(text: &[u8]) -> [u8; LONGEST_MECHANISM]
+    ensures { λ r. ⌜ r ≡ padded (capitals (now (text .entry))) ⌝ }
+{
+    let word = octets::part(text, 0, LONGEST_MECHANISM);
+    let mut kept = [0u8; LONGEST_MECHANISM];
+    let mut i: usize = 0;
+    while i < word.len() {
+        kept[i] = octets::capital(word[i]);
+        i += 1;
+    }
     kept
 }
 

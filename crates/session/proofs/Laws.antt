@@ -40,6 +40,8 @@ use Rattle.session.proofs.Sound.{sound}
 use Rattle.session.proofs.Judged.{verdicts, heard-or-refused, heard-short}
 -- a step depends on the view of a line alone, and lines that are alike are seen alike
 pub use Rattle.session.proofs.Views.{Seen, same-view}
+-- so are AUTH lines that differ in the case of letters alone, and what such lines ask the service is the same
+pub use Rattle.session.proofs.Views.{spelled-view, spelled-octets}
 -- a MAIL is passed on with what its AUTH says, and with an identity other than "<>" for who is signed in alone
 pub use Rattle.session.proofs.Relayed.{line-says, line-relays}
 -- what an answer says of a line's octets is so

@@ -1,29 +1,34 @@
--- What a session sees of lines that differ in a response alone. Assumes nothing.
+-- What a session sees of lines that differ in a response, or in the case of a mechanism's letters, alone. Assumes nothing.
 use mathlib.Core.Path.{_≡_, refl, sym, _∙_, ap}
-use mathlib.Core.Bool.{Bool, true, false, cond}
+use mathlib.Core.Bool.{Bool, true, false, cond, false≢true}
 use mathlib.Core.List.{List, _∷_, _++_}
 use Prim.Native.Nat.{ℕ}
 use native.Mathlib.Omega.{arith}
 use Rattle.octets.specs.Ascii.{ascii, space, capitals}
 use Rattle.octets.specs.Lists.{holds}
+use Rattle.base64.specs.Base64.{valid, octets}
 use Rattle.profile.specs.declared.Profile.{Profile}
 use Rattle.mail.specs.declared.Mail.the-variants as Mails
-use Rattle.lines.specs.Auth.{auth, nameText}
+use Rattle.lines.specs.Auth.{auth, nameText, initialText}
 use Rattle.lines.specs.Command.{understood, command}
+use Rattle.lines.specs.Response.{response}
 use Rattle.lines.specs.declared.verb.Verb.the-variants as Verbs
-use Rattle.lines.specs.Alike.{Alike, authLine}
+use Rattle.lines.specs.Alike.{Alike, authLine, SpelledAlike}
+use Rattle.lines.specs.Alike as Alikes
 use Rattle.lines.specs.declared.auth.Auth.{Auth}
+use Rattle.lines.specs.declared.auth.Auth.the-variants as Auths
 use Rattle.lines.specs.declared.command.Command.{Command}
 use Rattle.lines.specs.declared.command.Command.the-variants as Commands
-use Rattle.lines.proofs.Laws.{same-response, spaced-response, same-name-text, same-command, command-line, Holds, command-read}
+use Rattle.lines.proofs.Laws.{same-response, spaced-response, same-name-text, same-command, command-line, ReadAlike, spelled-alike, Holds, command-read}
 use Rattle.session.specs.Standing.{quiet, awaits, waits, standing}
-use Rattle.session.specs.Alike.{LinesAlike, equal, initial, response}
+use Rattle.session.specs.Alike as Lines
+use Rattle.session.specs.Alike.{LinesAlike}
 use Rattle.session.specs.declared.Phase.{Phase}
 use Rattle.session.specs.declared.Phase.the-variants as Phases
 use Rattle.session.specs.declared.Session.{Session}
 use Rattle.session.specs.declared.view.View.the-variants as Views
 use Rattle.session.specs.View.{viewIn, view}
-use Rattle.session.specs.Octets.{authCommand, mailCommand, mechanismText, relayText}
+use Rattle.session.specs.Octets.{authCommand, mailCommand, mechanismText, responseText, queryOctets, relayText}
 
 -- an AUTH line is no MAIL line
 unmailed : (p : Profile) (a x : List ℕ) → capitals a ≡ ascii "AUTH" → mailCommand (command p (a ++ (space ∷ x))) ≡ Mails.Malformed
@@ -33,28 +38,24 @@ unmailed p a x e = rw (command-line p a x e) (go (understood p Verbs.Auth (a ++ 
     go true = refl
     go false = refl
 
-module _ (a m r q : List ℕ) (e : capitals a ≡ ascii "AUTH") (f : holds space m ≡ false) (h : Alike r q) where
-  -- AUTH lines with initial responses of equal shape are commands that name the same mechanism
-  same-name : (p : Profile) (c : Command) → Holds p (authLine a m r) c → Holds p (authLine a m q) c → nameText (authCommand c) (authLine a m r) ≡ nameText (authCommand c) (authLine a m q)
-  same-name p Commands.NotUnderstood x y = refl
-  same-name p Commands.Malformed x y = refl
-  same-name p Commands.Ehlo x y = refl
-  same-name p Commands.Helo x y = refl
-  same-name p Commands.Rset x y = refl
-  same-name p Commands.Quit x y = refl
-  same-name p (Commands.Mail k) x y = refl
-  same-name p (Commands.Auth k) x y =
-      ap (λ (b : Auth). nameText b (authLine a m r)) (x .0)
-      ∙ same-name-text a m r q h f e
-      ∙ ap (λ (b : Auth). nameText b (authLine a m q)) (sym (y .0))
-  same-name p Commands.Barred x y = refl
-  same-name p Commands.Other x y = refl
+-- what an AUTH line's reading points to, g, is the same of two commands that are read alike if it is the same of two AUTH lines
+module _ (g : Auth → List ℕ → List ℕ) (l k : List ℕ) (z : g Auths.Malformed l ≡ g Auths.Malformed k) (e : g (auth l) l ≡ g (auth k) k) where
+  same-pointed : (p : Profile) (c : Command) → Holds p l c → Holds p k c → g (authCommand c) l ≡ g (authCommand c) k
+  same-pointed p Commands.NotUnderstood x y = z
+  same-pointed p Commands.Malformed x y = z
+  same-pointed p Commands.Ehlo x y = z
+  same-pointed p Commands.Helo x y = z
+  same-pointed p Commands.Rset x y = z
+  same-pointed p Commands.Quit x y = z
+  same-pointed p (Commands.Mail m) x y = z
+  same-pointed p (Commands.Auth a) x y = ap (λ (b : Auth). g b l) (x .0) ∙ e ∙ ap (λ (b : Auth). g b k) (sym (y .0))
+  same-pointed p Commands.Barred x y = z
+  same-pointed p Commands.Other x y = z
 
-  named : (p : Profile) → nameText (authCommand (command p (authLine a m r))) (authLine a m r) ≡ nameText (authCommand (command p (authLine a m q))) (authLine a m q)
-  named p =
-      let c = same-command p a m r q e f h in
-      same-name p (command p (authLine a m r)) (command-read (authLine a m r) p) (rw (← c) at (command-read (authLine a m q) p))
-      ∙ ap (λ (k : Command). nameText (authCommand k) (authLine a m q)) c
+  pointed : (p : Profile) → command p l ≡ command p k → g (authCommand (command p l)) l ≡ g (authCommand (command p k)) k
+  pointed p c =
+      same-pointed p (command p l) (command-read l p) (rw (← c) at (command-read k p))
+      ∙ ap (λ (m : Command). g (authCommand m) k) c
 
 -- what a session sees of a line, in a phase: the view, the mechanism that it names, and the xtext to relay
 pub record Seen (p : Profile) (x : Phase) (l k : List ℕ) : Type 0 where
@@ -68,24 +69,36 @@ not-quiet e = let z : _≡_ {A = ℕ} 0 1 = cc in omega arith
 not-waiting : (t : ℕ) → waits t ≡ awaits → ⊥
 not-waiting t e = let z : _≡_ {A = ℕ} 0 1 = cc in omega arith
 
-module _ (p : Profile) where
-  initials : (x : Phase) (a m r q : List ℕ) → capitals a ≡ ascii "AUTH" → holds space m ≡ false → Alike r q → Seen p x (authLine a m r) (authLine a m q)
+-- AUTH lines, whatever follows AUTH and a space: where they are read alike as commands and as responses, they are seen alike
+module _ (p : Profile) (a b x y : List ℕ) (e : capitals a ≡ ascii "AUTH") (f : capitals b ≡ ascii "AUTH") where
+  abbrev l : List ℕ
+  l = a ++ (space ∷ x)
+
+  abbrev k : List ℕ
+  k = b ++ (space ∷ y)
+
+  auth-lines : command p l ≡ command p k → nameText (auth l) l ≡ nameText (auth k) k → response p l ≡ response p k → (s : Phase) → Seen p s l k
   unfolding viewIn
-  initials x a m r q e f h = go x
+  auth-lines c n r s = go s
     where
-      commands : Seen p Phases.Idle (authLine a m r) (authLine a m q)
+      commands : Seen p Phases.Idle l k
       commands =
           record {
-            view = ap Views.Command (same-command p a m r q e f h);
-            mechanism = named a m r q e f h p;
-            relay = rw (unmailed p a (m ++ (space ∷ r)) e, unmailed p a (m ++ (space ∷ q)) e);
+            view = ap Views.Command c;
+            mechanism = pointed nameText l k refl n p c;
+            relay = rw (unmailed p a x e, unmailed p b y f);
           }
 
-      go : (x : Phase) → Seen p x (authLine a m r) (authLine a m q)
+      go : (s : Phase) → Seen p s l k
       go Phases.Idle = commands
       go Phases.SignedIn = record { view = commands .view; mechanism = commands .mechanism; relay = commands .relay }
-      go (Phases.Awaiting k) = record { view = ap Views.Response (spaced-response p a m r q (h .lengths)); mechanism = refl; relay = refl }
-      go (Phases.Waiting t k) = record { view = refl; mechanism = refl; relay = refl }
+      go (Phases.Awaiting m) = record { view = ap Views.Response r; mechanism = refl; relay = refl }
+      go (Phases.Waiting t m) = record { view = refl; mechanism = refl; relay = refl }
+
+module _ (p : Profile) where
+  initials : (x : Phase) (a m r q : List ℕ) → capitals a ≡ ascii "AUTH" → holds space m ≡ false → Alike r q → Seen p x (authLine a m r) (authLine a m q)
+  initials x a m r q e f h =
+      auth-lines p a a (m ++ (space ∷ r)) (m ++ (space ∷ q)) e e (same-command p a m r q e f h) (same-name-text a m r q h f e) (spaced-response p a m r q (h .lengths)) x
 
   responses : (x : Phase) (r q : List ℕ) → standing x ≡ awaits → Alike r q → Seen p x r q
   unfolding viewIn
@@ -96,6 +109,32 @@ module _ (p : Profile) where
 
 -- so lines that are alike are seen alike
 pub same-view : (s : Session) {l k : List ℕ} → LinesAlike (standing (s .phase)) l k → Seen (s .profile) (s .phase) l k
-same-view s (equal l) = record { view = refl; mechanism = refl; relay = refl }
-same-view s (initial a m {r = r} {q = q} e f h) = initials (s .profile) (s .phase) a m r q e f h
-same-view s (response {r = r} {q = q} e h) = responses (s .profile) (s .phase) r q e h
+same-view s (Lines.equal l) = record { view = refl; mechanism = refl; relay = refl }
+same-view s (Lines.initial a m {r = r} {q = q} e f h) = initials (s .profile) (s .phase) a m r q e f h
+same-view s (Lines.response {r = r} {q = q} e h) = responses (s .profile) (s .phase) r q e h
+
+-- and so are AUTH lines that differ in the case of letters alone
+pub spelled-view : (s : Session) {l k : List ℕ} → SpelledAlike l k → Seen (s .profile) (s .phase) l k
+spelled-view s h = go h (spelled-alike h)
+  where
+    go : {l k : List ℕ} → SpelledAlike l k → ReadAlike l k → Seen (s .profile) (s .phase) l k
+    go (Alikes.alone a b m n e f c j) r = auth-lines (s .profile) a b m n e f (r .commands (s .profile)) (r .name) (r .responses (s .profile)) (s .phase)
+    go (Alikes.initial a b m n t e f c j) r =
+        auth-lines (s .profile) a b (m ++ (space ∷ t)) (n ++ (space ∷ t)) e f (r .commands (s .profile)) (r .name) (r .responses (s .profile)) (s .phase)
+
+-- and where the first has a response, they hand on the same octets
+pub spelled-octets : (s : Session) {l k : List ℕ} → SpelledAlike l k → valid (responseText (view s l) l) ≡ true → queryOctets (view s l) l ≡ queryOctets (view s k) k
+unfolding viewIn queryOctets
+spelled-octets s {l} {k} h = go (s .phase)
+  where
+    r : ReadAlike l k
+    r = spelled-alike h
+
+    commands : octets (initialText (authCommand (command (s .profile) l)) l) ≡ octets (initialText (authCommand (command (s .profile) k)) k)
+    commands = pointed (λ (a : Auth) (t : List ℕ). octets (initialText a t)) l k refl (r .octets) (s .profile) (r .commands (s .profile))
+
+    go : (x : Phase) → valid (responseText (viewIn (s .profile) x l) l) ≡ true → queryOctets (viewIn (s .profile) x l) l ≡ queryOctets (viewIn (s .profile) x k) k
+    go Phases.Idle v = commands
+    go Phases.SignedIn v = commands
+    go (Phases.Awaiting m) v = absurd (false≢true (sym (r .malformed) ∙ v))
+    go (Phases.Waiting t m) v = refl

@@ -33,7 +33,7 @@ pub(crate) fn commands() {
 // Every check of AUTH in its order.
 pub(crate) fn checks() {
     on_smtp(
-        b">AUTH|>AUTH PLAIN Zm9v|>EHLO a|>AUTH|>AUTH PLAIN |>AUTH plain|>AUTH NOSUCH !!|>AUTH NOSUCH Zm9v|>AUTH NOSUCH|>AUTH CRAM-MD5 Zh==|>AUTH CRAM-MD5 Zm9v|>AUTH CRAM-MD5 =|>AUTH PLAIN\x00|>USER a",
+        b">AUTH|>AUTH PLAIN Zm9v|>EHLO a|>AUTH|>AUTH PLAIN |>AUTH PLAIN.|>AUTH NOSUCH !!|>AUTH NOSUCH Zm9v|>AUTH NOSUCH|>AUTH CRAM-MD5 Zh==|>AUTH CRAM-MD5 Zm9v|>AUTH CRAM-MD5 =|>AUTH PLAIN\x00|>USER a",
     );
     dialogue(
         Profile::smtp(),
@@ -45,6 +45,22 @@ pub(crate) fn checks() {
         b"m|>EHLO a|>AUTH|>AUTH NOSUCH|>AUTH CRAM-MD5 =|>AUTH PLAIN|>!|>AUTH PLAIN|>Zm9v|>*|>AUTH PLAIN Zm9v|>AUTH CRAM-MD5|>MAIL FROM:<a>",
     );
     on_smtp(b">EHLO a|M|>AUTH PLAIN Zm9v|m|>NOOP|r|>AUTH PLAIN Zm9v");
+}
+
+// Mechanisms in letters of either case.
+pub(crate) fn spellings() {
+    on_smtp(
+        b">AUTH plain|>EHLO a|>AUTH plain.|>AUTH pl{in|>AUTH nosuch|>AUTH nosuch !!|>AUTH cram-md5 Zm9v|>AUTH Cram-MD5|c|>AUTH plain",
+    );
+    on_smtp(b">EHLO a|>AUTH plain|>*|>AUTH pLaIn Zm9v|sanna|>AUTH plain");
+    on_pop3(
+        b">AUTH plain.|>auth nosuch =|>AUTH CRAM-md5 =|>AUTH PLAIn|>Zm9v|r|>auth plain =|sanna",
+    );
+    dialogue(
+        Profile::pop3(),
+        false,
+        b">AUTH plain|>AUTH plain Zm9v|>AUTH server-tls|>AUTH client-any|>|sanna",
+    );
 }
 
 // How an exchange goes on and ends.

@@ -6,6 +6,7 @@ mod show;
 fn main() {
     dialogues::commands();
     dialogues::checks();
+    dialogues::spellings();
     dialogues::exchanges();
     dialogues::verdicts();
     dialogues::pop3();

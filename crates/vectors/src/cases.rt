@@ -80,8 +80,12 @@ pub(crate) fn commands() {
         auth X_Y-9 Zg==|AUTH ABCDEFGHIJKLMNOPQRST|AUTH 0;\
         b AUTH|AUTH |AUTH  PLAIN|AUTH PLAIN |AUTH PLAIN  Zm9v|AUTH PLAIN Zm9v |AUTH PLAIN Zm9v x|AUTH PLAIN ==|AUTH PLAIN =A|AUTH PLAIN *|AUTH PLAIN Zh==|\
         AUTH PLAIN Zm9|AUTH NOSUCH !!;\
-        b AUTH plain|AUTH PL.AIN|AUTH PLAIN\t|AUTH =|AUTH ABCDEFGHIJKLMNOPQRSTU|AUTH ABCDEFGHIJKLMNOPQRSTU Zm9v|AUTHX PLAIN|AUTHPLAIN;\
-        e s 9 AUTH PLAIN;e p 14 AUTH PLAIN Zm9v;n s 507 AUTH PLAIN ;n s 511 AUTH PLAIN ;n s 510 NOOP ;n s 511 NOOP ;\
+        b AUTH plain|AUTH pLaIn Zg==|AUTH PLAIn =|auth cram-md5|AUTH Cram-Md5 Zm9v|auth x_y-9 =|AUTH nosuch|AUTH azAZ|AUTH abcdefghijklmnopqrst;\
+        b AUTH plain.|AUTH pl@in|AUTH pl[in|AUTH pl`in|AUTH pl{in|AUTH pl\xc1in|AUTH pl\xe1in|AUTH \x80lain|AUTH plai\xff|\
+        AUTH plain |AUTH plain !|AUTH nosuch !!|AUTH abcdefghijklmnopqrstu|AUTH abcdefghijklmnopqrstu Zm9v;\
+        b AUTH PL.AIN|AUTH PLAIN\t|AUTH =|AUTH ABCDEFGHIJKLMNOPQRSTU|AUTH ABCDEFGHIJKLMNOPQRSTU Zm9v|AUTHX PLAIN|AUTHPLAIN;\
+        e s 9 AUTH PLAIN;e p 5 AUTH plain;e s 12 AUTH cram-md5;e p 14 AUTH PLAIN Zm9v;\
+        n s 507 AUTH PLAIN ;n s 511 AUTH PLAIN ;n s 510 NOOP ;n s 511 NOOP ;\
         n s 511 MAILX ;n p 251 AUTH PLAIN ;n p 255 AUTH PLAIN ;n p 253 NOOP ;n p 254 NOOP ;n p 254 MAIL FROM:<",
     );
 }

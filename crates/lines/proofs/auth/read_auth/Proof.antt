@@ -20,7 +20,7 @@ returns-2 c =
     let f = w .before .before in
     no-name (f .before .before .args .line .now) _ (d .find .ensures)
     (rw (f .part .ensures) at (sym (w .is-word .ensures) ∙ not-false _ (d .before .if1 .left)))
-    (rw (m .before .part2 .ensures) at (sym (m .is-mechanism .ensures) ∙ not-true _ (c .if2 .taken)))
+    (rw (m .before .part2 .ensures) at (sym (m .is-spelling .ensures) ∙ not-true _ (c .if2 .taken)))
 
 returns-3 : tie.Need-returns-3
 returns-3 c =
@@ -30,7 +30,7 @@ returns-3 c =
     let f = w .before .before in
     alone (f .before .before .args .line .now) _ (d .find .ensures)
     (rw (f .part .ensures) at (sym (w .is-word .ensures) ∙ not-false _ (d .before .if1 .left)))
-    (rw (m .before .part2 .ensures) at (sym (m .is-mechanism .ensures) ∙ not-false _ (c .before .if2 .left)))
+    (rw (m .before .part2 .ensures) at (sym (m .is-spelling .ensures) ∙ not-false _ (c .before .if2 .left)))
     (c .if3 .taken)
 
 returns-4 : tie.Need-returns-4
@@ -42,7 +42,7 @@ returns-4 c =
     c .read-initial .ensures
     ∙ more (f .before .before .args .line .now) _ (d .find .ensures)
     (rw (f .part .ensures) at (sym (w .is-word .ensures) ∙ not-false _ (d .before .if1 .left)))
-    (rw (m .before .part2 .ensures) at (sym (m .is-mechanism .ensures) ∙ not-false _ (c .before .before .if2 .left)))
+    (rw (m .before .part2 .ensures) at (sym (m .is-spelling .ensures) ∙ not-false _ (c .before .before .if2 .left)))
     (omega arith)
 
 pub read-auth-spec : {M : Type 1} → statement M
