@@ -7,8 +7,8 @@ use native.Mathlib.Omega.{arith}
 use lib.Dec.{leb, eqb, leb·zero, leb·suc-zero, leb·suc-suc}
 use lib.ListN.{length, drop, drop-of-length-le}
 use lib.Seq.{take-all}
-use borrow.Author.Tests.{ne-eqb, ltb-false}
-use Rattle.octets.specs.Ascii.{capital, capitals}
+use borrow.Author.Tests.{ne-eqb, ltb-false, le-leb, lt-leb}
+use Rattle.octets.specs.Ascii.{isSmall, capital, capitals}
 use Rattle.octets.specs.Lists.{isEmpty, holds, before, after}
 use Rattle.octets.proofs.Cases.{below}
 use Rattle.octets.proofs.Words.{is-small, is-below, is-above, before-take, after-drop, holds-before}
@@ -26,12 +26,16 @@ same-empty [] (y ∷ s) e = absurd (omega arith)
 same-empty (x ∷ r) [] e = absurd (omega arith)
 same-empty (x ∷ r) (y ∷ s) e = refl
 
+-- an octet is no small letter, and then its own capital, or one of them
+pub by-case : {X : Type 0} (x : ℕ) → (isSmall x ≡ false → x ≡ capital x → X) → (97 ≤ x → x ≤ 122 → X) → X
+by-case x f g =
+    below x 97
+    (λ h. f (rw (lt-leb 97 x h)) (is-below x h))
+    (λ h. below 122 x (λ k. f (rw (le-leb 97 x h, lt-leb x 122 k)) (is-above x k)) (g h))
+
 -- what comes before the letters stands in a list exactly where it stands in its capitals
 eqb-capital : (y x : ℕ) → y < 0x41 → eqb (capital x) y ≡ eqb x y
-eqb-capital y x h =
-    below x 97
-    (λ k. ap (λ (z : ℕ). eqb z y) (sym (is-below x k)))
-    (λ k. below 122 x (λ j. ap (λ (z : ℕ). eqb z y) (sym (is-above x j))) (λ j. small k j))
+eqb-capital y x h = by-case x (λ s e. ap (λ (z : ℕ). eqb z y) (sym e)) small
   where
     small : 97 ≤ x → x ≤ 122 → eqb (capital x) y ≡ eqb x y
     small k j = rw (← (is-small x k j)) (ne-eqb (x - 32) y (λ e. omega arith) ∙ sym (ne-eqb x y (λ e. omega arith)))

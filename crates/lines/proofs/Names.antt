@@ -5,19 +5,19 @@ use mathlib.Core.List.{List, [], _∷_}
 use Prim.Native.Nat.{ℕ, zero, suc, _+_, _-_, _<_, _≤_}
 use native.Mathlib.Numerals.{add-one}
 use native.Mathlib.Omega.{arith}
-use borrow.Author.Tests.{le-leb, lt-leb}
+use borrow.Author.Tests.{le-leb}
 use lib.Dec.{leb}
 use lib.ListN.{length, getD, set, take, drop, replicate, length-map, length-take, length-replicate, drop-of-length-le}
 use lib.Seq.{sets, drop-cons}
 use Rattle.octets.specs.Ascii.{isSmall, capital, capitals}
 use Rattle.octets.specs.Answers.{written}
 use Rattle.octets.specs.Lists.{every, oneTo, before}
-use Rattle.octets.proofs.Cases.{below}
 use Rattle.octets.proofs.Every.{unpadded}
 use Rattle.octets.proofs.Padded.{padded-written, length-padded}
-use Rattle.octets.proofs.Words.{is-small, is-below, is-above, getD-capitals}
+use Rattle.octets.proofs.Words.{is-small, getD-capitals}
 use Rattle.lines.specs.Mechanism.{mechChar, mechanism, spelling, padded}
 use Rattle.lines.specs.Private.{nameChar, formed}
+use Rattle.lines.proofs.Lists.{by-case}
 
 -- a name in twenty octets
 pub name-written : (m : List ℕ) → written (replicate 20 0) 0 (take 20 m) ≡ padded m
@@ -47,14 +47,8 @@ module _ (x : ℕ) where
       let b : x - 32 ≤ 90 = omega arith in
       rw (le-leb _ _ h, le-leb _ _ k, ← (is-small x h k), le-leb _ _ a, le-leb _ _ b) (or-true (mechChar x))
 
-  either : (mechChar x || isSmall x) ≡ mechChar (capital x)
-  either =
-      below x 97
-      (λ h. unspelled (rw (lt-leb 97 x h)) (is-below x h))
-      (λ h. below 122 x (λ k. unspelled (rw (le-leb 97 x h, lt-leb x 122 k)) (is-above x k)) (small h))
-
   pub name-char : (b : Bool) → (mechChar x || (b && leb 97 x && leb x 122)) ≡ nameChar b x
-  name-char true = either
+  name-char true = by-case x unspelled small
   name-char false = or-false (mechChar x)
 
 -- a text spells a name if it is of the form with its small letters read as capitals

@@ -16,7 +16,6 @@ use Rattle.lines.specs.Mechanism.{spelling}
 use Rattle.lines.specs.Verb.{space}
 use Rattle.lines.specs.Says as Say
 use Rattle.lines.specs.Says.{malformed, alone, initialSays, argumentsSay, authSays, pointsTo}
-use Rattle.lines.specs.declared.auth.Auth.{Auth}
 use Rattle.lines.specs.declared.auth.Auth.the-variants.{Malformed, Alone, Initial}
 use Rattle.lines.proofs.Auths.{name, rest}
 

@@ -15,14 +15,14 @@ pub fn is_mech_char(x: u8) -> bool
     (b'A' <= x) & (x <= b'Z') | (b'0' <= x) & (x <= b'9') | (x == b'-') | (x == b'_')
 }
 
-// The same of a name whose small letters are read as capitals, if they are to be.
+// The same; where `small` is true a small letter may stand there too, as it is read as a capital.
 fn is_name_char(x: u8, small: bool) -> bool
     ensures { λ r. ⌜ r ≡ nameChar small x ⌝ }
 {
     is_mech_char(x) | small & (b'a' <= x) & (x <= b'z')
 }
 
-// Whether a text has one to twenty such octets and no other.
+// Whether a text has one to twenty such octets, and no others.
 fn is_formed(text: &[u8], small: bool) -> bool
     ensures { λ r. ⌜ r ≡ formed small (now (text .entry)) ⌝ }
 {

@@ -49,7 +49,7 @@ mailIn (Views.Command c) = mailCommand c
 mailIn (Views.Response r) = Mails.Malformed
 mailIn Views.Unread = Mails.Malformed
 
--- the name of the mechanism that an AUTH line asks for
+-- the name of the mechanism that an AUTH line asks for, in capitals
 abbrev pub mechanismText : View → List ℕ → List ℕ
 mechanismText v l = nameText (authIn v) l
 

@@ -90,7 +90,7 @@ impl View {
         }
     }
 
-    // The mechanism that the line names, in twenty octets; NUL alone where it names none.
+    // The mechanism that the line names, in capitals and in twenty octets; NUL alone where it names none.
     pub fn mechanism(self, line: &[u8]) -> [u8; LONGEST_MECHANISM]
         ensures { λ r. ⌜ r ≡ padded (mechanismText self (now (line .entry))) ⌝ }
     {
