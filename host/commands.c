@@ -1,5 +1,6 @@
 /* What each command does where no exchange runs, and the order of AUTH's checks. */
 #include "check.h"
+#include <limits.h>
 #include <string.h>
 
 /* Whether AUTH is for this moment: greeted, in no transaction, not signed in. The exchange is ended again. */
@@ -235,27 +236,35 @@ static void auth_without_a_mechanism_of_its_name(void) {
 }
 
 /* An AUTH line with this name, and after it the text. */
-static struct text auth_line(const uint8_t *name, size_t size, struct text after) {
-    return joined(joined(T("AUTH "), (struct text){name, size}), after);
+static struct text auth_line(struct text name, struct text after) {
+    return joined(joined(T("AUTH "), name), after);
 }
 
-/* Under this spelling PLAIN and CRAM-MD5 are what make_server has added: the first speaks first, the other does not. */
+/* Under this spelling PLAIN and CRAM-MD5 are what make_server has added: with the one the client speaks first, with the other the server. */
 static void expect_found(uint64_t profile, uint64_t connection, struct text name, bool client_first) {
-    struct text alone = auth_line(name.octets, name.size, NO_OCTETS);
-    struct text initial = auth_line(name.octets, name.size, T(" Zm9v"));
     uint64_t ticket = next_ticket();
     if (client_first) {
-        EXPECT_REPLY(connection, alone, hears[profile][EMPTY_CHALLENGE]);
+        EXPECT_REPLY(connection, auth_line(name, NO_OCTETS), hears[profile][EMPTY_CHALLENGE]);
         EXPECT_REPLY(connection, T("*"), hears[profile][CANCELLED]);
-        EXPECT_QUERY(connection, initial, ticket, T("foo"));
+        EXPECT_QUERY(connection, auth_line(name, T(" Zm9v")), ticket, T("foo"));
     } else {
-        EXPECT_REPLY(connection, initial, hears[profile][NO_INITIAL]);
-        EXPECT_START(connection, alone, ticket);
+        EXPECT_REPLY(connection, auth_line(name, T(" Zm9v")), hears[profile][NO_INITIAL]);
+        EXPECT_START(connection, auth_line(name, NO_OCTETS), ticket);
     }
     EXPECT_SAID(ticket, UMBRELNIC_REJECTED, NO_OCTETS, hears[profile][REJECTED]);
 }
 
-/* M-105: in a line each letter of a mechanism's name may be small. All spellings of two names, those in capitals and in small letters among them. */
+/* A name in capitals as it is spelled with these of its letters small, a bit each; what is no letter stays. */
+static struct text spelled(struct text name, unsigned small) {
+    static uint8_t octets[UMBRELNIC_LONGEST_MECHANISM];
+    for (size_t at = 0; at < name.size; at++) {
+        bool turns = 'A' <= name.octets[at] && name.octets[at] <= 'Z' && (small >> at & 1) == 1;
+        octets[at] = turns ? name.octets[at] - 'A' + 'a' : name.octets[at];
+    }
+    return (struct text){octets, name.size};
+}
+
+/* M-105: in a line each letter of a mechanism's name may be small. Every spelling of two names, all letters capital and all small among them. */
 static void auth_in_every_spelling(void) {
     static const char *const names[] = {"PLAIN", "CRAM-MD5"};
     make_server();
@@ -263,49 +272,51 @@ static void auth_in_every_spelling(void) {
     for (size_t i = 0; i < COUNT(names); i++) {
         struct text name = of_string(names[i]);
         for (unsigned small = 0; small < 1u << name.size; small++) {
-            uint8_t spelled[8];
-            for (size_t at = 0; at < name.size; at++) {
-                bool letter = 'A' <= name.octets[at] && name.octets[at] <= 'Z';
-                spelled[at] = name.octets[at] | (letter && small >> at & 1 ? 0x20 : 0);
-            }
-            for (uint64_t profile = 0; profile < 2; profile++) {
-                expect_found(profile, connections[profile], (struct text){spelled, name.size}, i == 0);
-            }
+            expect_found(UMBRELNIC_SMTP, connections[UMBRELNIC_SMTP], spelled(name, small), i == 0);
+            expect_found(UMBRELNIC_POP3, connections[UMBRELNIC_POP3], spelled(name, small), i == 0);
         }
     }
 }
 
-/* What a client hears whose AUTH line has this octet at some place of a name, in place of the capital that belongs there. */
-static enum reply heard_of(uint8_t octet, uint8_t belongs) {
-    bool small = 'a' <= octet && octet <= 'z';
-    uint8_t capital = small ? octet - 'a' + 'A' : octet;
+/* What a client hears whose AUTH line has this octet at some place of a name, where this capital, digit or "-" belongs; `found`: what it hears
+   where the name is right. */
+static enum reply heard_of(uint8_t octet, uint8_t belongs, enum reply found) {
+    uint8_t capital = 'a' <= octet && octet <= 'z' ? octet - 'a' + 'A' : octet;
     if (octet == '\0' || octet == '\r' || octet == '\n') {
         return NOT_UNDERSTOOD;
     }
     if (capital == belongs) {
-        return EMPTY_CHALLENGE;
+        return found;
     }
     return strchr("ABCDEFGHIJKLMNOPQRSTUVWXYZ0123456789-_", capital) != NULL ? UNAVAILABLE : SYNTAX;
 }
 
-/* Each octet at each place of a name in small letters: those beside the letters ("@", "[", "`", "{"), the same letters with a bit
-   more (80-FF), and "." among them. A space ends the name, and what follows is no base64. */
+/* Each octet at one place of a name in small letters, after which this text stands. */
+static void expect_each_octet(uint64_t profile, uint64_t connection, struct text name, size_t at, struct text after, enum reply found) {
+    struct text small = spelled(name, UINT_MAX);
+    uint8_t octets[UMBRELNIC_LONGEST_MECHANISM];
+    memcpy(octets, small.octets, small.size);
+    for (unsigned octet = 0; octet < 256; octet++) {
+        octets[at] = (uint8_t)octet;
+        enum reply reply = heard_of((uint8_t)octet, name.octets[at], found);
+        EXPECT_REPLY(connection, auth_line((struct text){octets, name.size}, after), hears[profile][reply]);
+        if (reply == EMPTY_CHALLENGE) {
+            EXPECT_REPLY(connection, T("*"), hears[profile][CANCELLED]);
+        }
+    }
+}
+
+/* Those beside the letters ("@", "[", "`", "{"), letters with a bit more (80-FF) and "." are among them. A space ends the name, and what
+   follows it is no base64. */
 static void auth_with_each_octet_in_a_name(void) {
-    static const char name[] = "plain";
     make_server();
     const uint64_t connections[] = {open_smtp(), open_pop3()};
-    for (size_t at = 0; at < strlen(name); at++) {
-        for (int octet = 0; octet < 256; octet++) {
-            uint8_t other[sizeof name];
-            memcpy(other, name, sizeof name);
-            other[at] = (uint8_t)octet;
-            enum reply reply = heard_of((uint8_t)octet, (uint8_t)(name[at] - 'a' + 'A'));
-            for (uint64_t profile = 0; profile < 2; profile++) {
-                EXPECT_REPLY(connections[profile], auth_line(other, strlen(name), NO_OCTETS), hears[profile][reply]);
-                if (reply == EMPTY_CHALLENGE) {
-                    EXPECT_REPLY(connections[profile], T("*"), hears[profile][CANCELLED]);
-                }
-            }
+    for (uint64_t profile = 0; profile < 2; profile++) {
+        for (size_t at = 0; at < strlen("PLAIN"); at++) {
+            expect_each_octet(profile, connections[profile], T("PLAIN"), at, NO_OCTETS, EMPTY_CHALLENGE);
+        }
+        for (size_t at = 0; at < strlen("CRAM-MD5"); at++) {
+            expect_each_octet(profile, connections[profile], T("CRAM-MD5"), at, T(" ="), NO_INITIAL);
         }
     }
 }
