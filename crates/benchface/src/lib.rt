@@ -1,4 +1,6 @@
 // The C face of base64 and xtext for bench/; no part of the library that is shipped.
+#![tactic(auto)]
+
 ghost use Rattle.std.specs.Prelude.{◌≡◌, length};
 ghost use Rattle.octets.specs.Answers.{written};
 ghost use Rattle.base64text.specs.Base64;

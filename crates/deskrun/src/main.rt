@@ -1,4 +1,6 @@
 // Runs a script of calls on standard input against a desk of its own, and prints a line for each (docs/DESKRUN.md).
+#![tactic(auto)]
+
 use libc::STDIN_FILENO;
 use script::kept::Kept;
 

@@ -1,5 +1,7 @@
 // The image of a server: a buffer of fixed length that a host in C holds. Nothing here builds a whole server: an image is tested, searched and
 // changed where it stands. Octets of another length are no image: nothing is found there and nothing changes.
+#![tactic(auto)]
+
 ghost use Rattle.std.specs.Prelude.{◌≡◌};
 ghost use Rattle.std.proofs.Math.Option.{none, some};
 ghost use Rattle.server.specs.Slots.{is_numbered, is_waiting, is_free, holding};

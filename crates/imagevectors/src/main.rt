@@ -1,5 +1,7 @@
 // Images of servers: made, written, read, searched and tested. The rows are the lines of the file stdin; rows.rt says what a line may be.
 // What they must print is in the file stdout, which expected.py makes from docs/IMAGE.md and document 01.
+#![tactic(auto)]
+
 use image::OCTETS;
 use libc::STDIN_FILENO;
 

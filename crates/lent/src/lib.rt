@@ -1,5 +1,7 @@
 // A session record that a host in Rattle lends and has updated: the same steps as Session's, which take the record by value and hand it back.
 // "A host in Rattle may also lend one session record and have that record updated by the same step" (document 01).
+#![tactic(auto)]
+
 ghost use Rattle.std.specs.Prelude.{◌≡◌};
 ghost use Rattle.session.specs.Line.{after_line};
 ghost use Rattle.session.specs.Verdict.{after_verdict};

@@ -1,4 +1,6 @@
 // The C face of the readings of lines for bench/: an answer as its numbers; no part of the library that is shipped.
+#![tactic(auto)]
+
 ghost use Rattle.std.specs.Prelude.{◌≡◌};
 ghost use Rattle.lineface.specs.Readings.{bare, mail_reading, auth_reading, command_reading, response_reading, command_at, response_at};
 

@@ -1,4 +1,6 @@
 // What a client's line says, in numbers and enums: where things stand in it, and how long they decode to.
+#![tactic(auto)]
+
 pub mod auth;
 pub mod command;
 pub mod mechanism;

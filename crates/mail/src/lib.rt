@@ -1,4 +1,6 @@
 // The MAIL line: its form, and what its AUTH parameter says.
+#![tactic(auto)]
+
 ghost use Rattle.std.specs.Prelude.{◌≡◌, false, length, drop};
 ghost use Rattle.xtext.specs.Xtext.{decoded, decoded_into};
 ghost use Rattle.mail.specs.Mail.{mail, mail_at, address_text};

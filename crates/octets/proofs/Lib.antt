@@ -8,8 +8,4 @@ pub mod Words
 pub mod Padded
 pub mod Padding
 pub mod Every
-pub mod Walks
-pub mod Readers
-pub mod ThroughReader
-pub mod ThroughReaderInto
 pub mod TextReaders

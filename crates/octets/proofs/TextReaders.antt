@@ -1,4 +1,4 @@
--- What every form of text says where it is measured and decoded through a reader, for the laws of `ThroughReader.antt` and `ThroughReaderInto.antt`. Assumes nothing.
+-- What every form of text says where it is measured and decoded through a reader. Assumes nothing.
 use mathlib.Core.Path.{◌≡◌, ap}
 use mathlib.Core.List.{List}
 use Prim.Native.Nat.{ℕ}
@@ -10,21 +10,7 @@ use Rattle.octets.specs.declared.Decoded.{Decoded}
 use Rattle.octets.specs.declared.reader.Reader.{Reader}
 use Rattle.octets.specs.declared.reader.Measuring.{Measuring}
 use Rattle.octets.specs.declared.reader.Decoding.{Decoding}
-use Rattle.octets.specs.contracts.Measured as M
-use Rattle.octets.proofs.Measured.TheLaws as M'
-use Rattle.octets.specs.contracts.Decoded as D
-use Rattle.octets.proofs.Decoded.TheLaws as D'
-use Rattle.octets.specs.contracts.reader.Measuring as MR
-use Rattle.octets.specs.contracts.reader.Decoding as DR
 use Rattle.octets.proofs.Lists.{to_end}
-use Rattle.octets.proofs.Readers.{Read}
-
--- what measure and decode give over a line and a number
-abbrev pub measuring-read : Read
-measuring-read = record { E = M.the_type; E-plain = M'.the_plain; E-laws = M'.the_field_laws; S = Measuring; answer = λ s. s.answer; at = λ s. s.at; name = (MR.the_type).name; one = (MR.the_type).to_one }
-
-abbrev pub decoding-read : Read
-decoding-read = record { E = D.the_type; E-plain = D'.the_plain; E-laws = D'.the_field_laws; S = Decoding; answer = λ s. s.answer; at = λ s. s.at; name = (DR.the_type).name; one = (DR.the_type).to_one }
 
 -- a text was taken, and the reading went on to the line's end; or it was not, and the reading stayed
 module _ (l : List ℕ) (at : ℕ) where

@@ -1,4 +1,6 @@
 // What every reading and writing of octets shares: the part of a line that is read, and the answers.
+#![tactic(auto)]
+
 ghost use Rattle.std.specs.Prelude.{◌≡◌, ◌+◌, length, drop};
 ghost use Rattle.std.proofs.Math.Seq.{slice};
 ghost use Rattle.octets.specs.Answers.{written, encoded};

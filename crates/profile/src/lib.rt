@@ -1,4 +1,6 @@
 // The two profiles, SMTP and POP3: their limits, and what their clients hear.
+#![tactic(auto)]
+
 ghost use Rattle.std.specs.Prelude.{◌≡◌, length};
 ghost use Rattle.octets.specs.Answers.{written, encoded};
 ghost use Rattle.profile.specs.Limits.{command_limit, mail_limit, response_limit};

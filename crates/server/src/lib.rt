@@ -1,6 +1,8 @@
 // The server (document 01: the desk): 64 slots, one connection each, the mechanisms, and the numbers to issue next.
 //
 // No value of this crate is a whole server: whoever keeps one hands over the header, the table of mechanisms or one connection by value.
+#![tactic(auto)]
+
 ghost use Rattle.std.specs.Prelude.{◌≡◌};
 ghost use Rattle.server.specs.Make.{made};
 

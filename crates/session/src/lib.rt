@@ -4,6 +4,8 @@
 // Then it decodes what the line hands on (`View::decode_response_unchecked` for a query, whose response the reading found to be base64, or
 // `View::decode_response`, which looks again; `View::decode_address` for a MAIL), or writes what the client hears (`Answer::say`). A verdict is a
 // step of its own (`verdict`), and so is the end of a transaction (`mail_ended`).
+#![tactic(auto)]
+
 ghost use Rattle.std.specs.Prelude.{◌≡◌, length};
 ghost use Rattle.octets.specs.Answers.{written, encoded};
 ghost use Rattle.session.specs.Session.{opened, signed_in, name_of};

@@ -1,4 +1,6 @@
 // Dialogues, run through a session's steps. What they must print is in the file stdout, which expected.py makes from the papers.
+#![tactic(auto)]
+
 mod dialogues;
 mod run;
 mod show;

@@ -1,4 +1,6 @@
 // Vectors of base64 and xtext, the printing of texts and answers, and the words of a row.
+#![tactic(auto)]
+
 mod cases;
 mod form;
 mod rows;

@@ -1,6 +1,8 @@
 // The calls, for a host in C: functions over an image and octet buffers. include/umbrelnic.h declares them.
 //
 // Each promise says, for any octets and any numbers, what the call gives, the image that it leaves and what each lent buffer holds then.
+#![tactic(auto)]
+
 ghost use Rattle.std.specs.Prelude.{◌≡◌};
 ghost use Rattle.image.specs.Sizes.{image_size};
 ghost use Rattle.calls.specs.Call as Call;

@@ -1,4 +1,6 @@
 // Outside vectors, run through the proved functions. What they must print is in the file stdout, which expected.py makes from the papers.
+#![tactic(auto)]
+
 mod cases;
 mod each;
 mod long;

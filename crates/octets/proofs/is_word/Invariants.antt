@@ -1,0 +1,15 @@
+use Prim.Native.Nat.{◌-◌, ◌≤◌}
+use Rattle.octets.proofs.Words.{same_step, same_stop, same_end, same-lengths, get_d_capitals}
+use Rattle.octets.specs.Ascii.{capital, capitals}
+use Rattle.octets.specs.Lists.{same}
+use borrow.Author.Rules.{rules}
+use lib.ListN.{length, drop, length-map}
+use mathlib.Core.Path.{◌≡◌, sym, ◌∙◌}
+use native.Mathlib.Omega.{arith}
+use Rattle.octets.proofs.is_word.Given as goal
+
+abbrev pub invariant-loop-i : goal.invariant-loop-i
+invariant-loop-i l = (l.i ≤ length l.text) × (same (drop l.i (capitals l.text)) (drop l.i l.word) ≡ same (capitals l.text) l.word)
+
+abbrev pub decreases-loop-i : goal.decreases-loop-i
+decreases-loop-i l = length l.text - l.i
