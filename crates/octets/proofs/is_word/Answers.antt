@@ -19,11 +19,11 @@ returns-then-capital-word c = sym
 
 pub loop-i-preserved : goal.loop-i-preserved
 loop-i-preserved c = (
-      search rules,
-      same_step (capitals c.args.text.now) c.args.word.now c.loop-i.i (omega (arith, length-map c.args.text.now capital)) (omega arith)
-          (get_d_capitals c.args.text.now c.loop-i.i ∙ sym c.capital.ensures ∙ c.if-capital-word.false)
-          ∙ c.loop-i.invariant.1,
-    )
+  search rules,
+  same_step (capitals c.args.text.now) c.args.word.now c.loop-i.i (omega (arith, length-map c.args.text.now capital)) (omega arith)
+      (get_d_capitals c.args.text.now c.loop-i.i ∙ sym c.capital.ensures ∙ c.if-capital-word.false)
+      ∙ c.loop-i.invariant.1,
+)
 
 pub returns : goal.returns
 returns c = sym (same_end (capitals c.args.text.now) c.args.word.now c.loop-i.i (omega (arith, length-map c.args.text.now capital)) (omega arith)) ∙ c.loop-i.invariant.1
