@@ -13,7 +13,7 @@ pub mod reader;
 use octets::{Decoded, Encoded, Measured};
 
 // What four octets of text stand for.
-#[derive(Drop)]
+#[derive(Clone, Copy)]
 pub enum Group {
     One(u8),
     Two(u8, u8),

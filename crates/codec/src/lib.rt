@@ -1,3 +1,2 @@
 // Layouts of fixed length: only definitions (specs/) and their laws (proofs/).
 #![tactic(auto)]
-

@@ -6,7 +6,7 @@ use script::kept::Kept;
 use umbrelnic::{ANSWER_OCTETS, REPLY_OCTETS};
 
 // The line that is read, and the index after the transcript in out.
-#[derive(Drop)]
+#[derive(Clone, Copy)]
 struct State {
     kept: Kept,
     at: usize,

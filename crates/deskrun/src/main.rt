@@ -29,7 +29,7 @@ fn make(image: &mut [u8]) {
 }
 
 // What is left of a script after a block of it: whether it goes on, and the line that the block ends in.
-#[derive(Drop)]
+#[derive(Clone, Copy)]
 struct Left {
     goes_on: bool,
     kept: Kept,

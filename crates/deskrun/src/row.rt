@@ -7,7 +7,7 @@ use umbrelnic::{Borne, LineAnswer, Opened, Said};
 
 // A length is that of the text which stands in a buffer: of an address in the answer buffer, of a reply, which is printed without its CRLF, and
 // of a name in the reply buffer.
-#[derive(Drop)]
+#[derive(Clone, Copy)]
 pub(crate) enum Row {
     Unreadable,
     Opened(u64),

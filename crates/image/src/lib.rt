@@ -24,7 +24,7 @@ mod unique;
 pub const OCTETS: usize = SERVER_SLOTS + MOST_CONNECTIONS * SLOT;
 
 // Where a search ended: at the index of a slot, or nowhere.
-#[derive(Drop)]
+#[derive(Clone, Copy)]
 pub enum Found {
     At(usize),
     Nothing,

@@ -12,7 +12,7 @@ use profile::{ListedProfile, Profile};
 
 // The kind of a reading, and the indices and the length that it has.
 #[repr(C)]
-#[derive(Drop)]
+#[derive(Clone, Copy)]
 pub struct Reading {
     kind: u64,
     to: u64,

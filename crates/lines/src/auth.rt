@@ -9,7 +9,7 @@ use octets::{Decoded, Measured};
 
 // An AUTH line. Alone: the mechanism's name, in letters of either case, stands from index 5 up to `to`, and nothing follows. Initial: the
 // base64 of an initial response stands from index `from` to the line's end and decodes to so many octets.
-#[derive(Drop)]
+#[derive(Clone, Copy)]
 pub enum Auth {
     Malformed,
     Alone {

@@ -10,7 +10,7 @@ use profile::Profile;
 
 // A line where no exchange runs. NotUnderstood: too long, or with a forbidden octet. Malformed: EHLO, HELO, RSET or QUIT not of its form.
 // Barred: a verb that is never permitted. Other: any verb without a rule.
-#[derive(Drop)]
+#[derive(Clone, Copy)]
 pub enum Command {
     NotUnderstood,
     Malformed,

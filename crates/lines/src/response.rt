@@ -6,7 +6,7 @@ use octets::Measured;
 use profile::Profile;
 
 // A response in an exchange. Length: it is base64 of so many octets.
-#[derive(Drop)]
+#[derive(Clone, Copy)]
 pub enum Response {
     TooLong,
     Cancelled,

@@ -4,7 +4,7 @@ ghost use Rattle.octets.specs.Ascii.{capitals};
 ghost use Rattle.lines.specs.Verb.{verb, verb_of};
 
 // The verbs that have rules of their own.
-#[derive(Drop)]
+#[derive(Clone, Copy)]
 pub enum Verb {
     Ehlo,
     Helo,

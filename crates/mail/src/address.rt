@@ -8,7 +8,7 @@ use xtext::Character;
 
 // What the octets read so far are: none; "<"; "<>"; others, with no "@" that has an octet before and after it; such with an "@" at the end
 // that has one before it; an address.
-#[derive(Drop)]
+#[derive(Clone, Copy)]
 pub(crate) enum State {
     Start,
     Less,
@@ -19,7 +19,7 @@ pub(crate) enum State {
 }
 
 // What a value stands for, with where it ends and an address's length. Malformed: neither of the two.
-#[derive(Drop)]
+#[derive(Clone, Copy)]
 pub(crate) enum Judged {
     Malformed,
     Null { end: usize },

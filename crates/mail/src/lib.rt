@@ -16,7 +16,7 @@ use parameter::Parameter;
 
 // What a MAIL line says of the identity to relay. Malformed: the line is not of the form. Absent: it has no AUTH parameter.
 // Null: AUTH is "<>". Address: the xtext of AUTH's address stands at these indices of the line and decodes to so many octets.
-#[derive(Drop)]
+#[derive(Clone, Copy)]
 pub enum Mail {
     Malformed,
     Absent,

@@ -9,7 +9,7 @@ use crate::address::{Judged, is_end, judge};
 
 // A parameter and where it ends: AUTH with "<>"; AUTH with an address, whose xtext stands at these indices and decodes to so many octets;
 // SUBMITTER; any other. Malformed: what stands there is none of these.
-#[derive(Drop)]
+#[derive(Clone, Copy)]
 pub(crate) enum Parameter {
     Malformed,
     Other {
@@ -29,7 +29,7 @@ pub(crate) enum Parameter {
 }
 
 // The characters of a keyword, and those of a value.
-#[derive(Drop)]
+#[derive(Clone, Copy)]
 enum Class {
     Keyword,
     Value,

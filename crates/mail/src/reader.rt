@@ -7,7 +7,7 @@ use crate::Mail;
 use octets::reader::Reader;
 
 // What the line says, and the index that the reading reached.
-#[derive(Drop)]
+#[derive(Clone, Copy)]
 pub struct Reading {
     pub answer: Mail,
     pub at: usize,

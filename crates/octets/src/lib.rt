@@ -10,14 +10,14 @@ ghost use Rattle.octets.specs.Lists.{same, before};
 pub mod reader;
 
 // A look at a text: how many octets it decodes to.
-#[derive(Drop)]
+#[derive(Clone, Copy)]
 pub enum Measured {
     Length(usize),
     Malformed,
 }
 
 // Decoding a text to the start of a lent buffer: how many octets were written. Short: the buffer is shorter than that.
-#[derive(Drop)]
+#[derive(Clone, Copy)]
 pub enum Decoded {
     Length(usize),
     Malformed,
@@ -25,7 +25,7 @@ pub enum Decoded {
 }
 
 // Encoding octets into a lent buffer from an index on: the index after the text. Short: the buffer ends before it.
-#[derive(Drop)]
+#[derive(Clone, Copy)]
 pub enum Encoded {
     End(usize),
     Short,

@@ -12,13 +12,13 @@ pub struct Reader<'a> {
 }
 
 // The answer of a reading from an index of a line on, and the index that it reached.
-#[derive(Drop)]
+#[derive(Clone, Copy)]
 pub struct Measuring {
     pub answer: Measured,
     pub at: usize,
 }
 
-#[derive(Drop)]
+#[derive(Clone, Copy)]
 pub struct Decoding {
     pub answer: Decoded,
     pub at: usize,

@@ -12,21 +12,21 @@ use octets::Encoded;
 pub mod numbers;
 mod texts;
 
-#[derive(Drop)]
+#[derive(Clone, Copy)]
 pub enum Profile {
     Smtp,
     Pop3,
 }
 
 // A profile by its number from outside.
-#[derive(Drop)]
+#[derive(Clone, Copy)]
 pub enum ListedProfile {
     Known(Profile),
     Unlisted,
 }
 
 // The events that have a text of their own.
-#[derive(Drop)]
+#[derive(Clone, Copy)]
 pub enum Reply {
     Success,
     Transition,

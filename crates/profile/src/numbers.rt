@@ -3,7 +3,7 @@ ghost use Rattle.std.specs.Prelude.{◌≡◌};
 ghost use Rattle.profile.specs.Numbers.{verdict_of, verdict_number, refusal_number, kind_number, identity_number};
 
 // What the password service says of a ticket (document 01: verdict).
-#[derive(Drop)]
+#[derive(Clone, Copy)]
 pub enum Verdict {
     Challenge,
     Success,
@@ -14,14 +14,14 @@ pub enum Verdict {
 }
 
 // A verdict by its number from outside.
-#[derive(Drop)]
+#[derive(Clone, Copy)]
 pub enum ListedVerdict {
     Known(Verdict),
     Unlisted,
 }
 
 // Why a call is refused.
-#[derive(Drop)]
+#[derive(Clone, Copy)]
 pub enum Refusal {
     ShortBuffer,
     NoConnection,
@@ -38,7 +38,7 @@ pub enum Refusal {
 }
 
 // What a line is answered with (document 01: passed on, a question, a reply).
-#[derive(Drop)]
+#[derive(Clone, Copy)]
 pub enum Kind {
     Forward,
     Query,
@@ -46,7 +46,7 @@ pub enum Kind {
 }
 
 // The identity to relay with a line that is passed on: it is no MAIL; "<>"; none; an address.
-#[derive(Drop)]
+#[derive(Clone, Copy)]
 pub enum Identity {
     NoMail,
     Null,

@@ -10,7 +10,7 @@ use profile::Profile;
 use profile::numbers::Verdict;
 
 // A call, or what is none. The text of a line, or of a verdict, is what the script line has from an index on.
-#[derive(Drop)]
+#[derive(Clone, Copy)]
 pub enum Command {
     Unreadable,
     Open {

@@ -6,14 +6,14 @@ ghost use Rattle.script.specs.Kept.{none, extended, started, added};
 use crate::hex::is_hex;
 
 // Octets that are not kept: whether they are hexadecimal digits alone, and their number modulo 2.
-#[derive(Drop)]
+#[derive(Clone, Copy)]
 pub struct Rest {
     pub digits: bool,
     pub parity: usize,
 }
 
 // A line: how many octets of it the buffer holds, and the rest.
-#[derive(Drop)]
+#[derive(Clone, Copy)]
 pub struct Kept {
     pub length: usize,
     pub rest: Rest,

@@ -4,7 +4,7 @@ ghost use Rattle.script.specs.Word.{word_of, bare_word_of, takes_text, has_data}
 
 use profile::numbers::Verdict;
 
-#[derive(Drop)]
+#[derive(Clone, Copy)]
 pub(crate) enum Word {
     Line,
     Hexline,

@@ -15,7 +15,7 @@ mod table;
 pub const MOST_MECHANISMS: usize = 8;
 
 // What a server has once: the next connection's number, the next ticket, and whether it is sealed (document 01: adding has ended).
-#[derive(Drop)]
+#[derive(Clone, Copy)]
 pub struct Header {
     pub connection: u64,
     pub ticket: u64,
@@ -23,7 +23,7 @@ pub struct Header {
 }
 
 // A mechanism: its name in twenty octets, padded with NUL, whether the client speaks first, whether it needs a protected connection.
-#[derive(Drop)]
+#[derive(Clone, Copy)]
 pub struct Mechanism {
     pub name: [u8; LONGEST_MECHANISM],
     pub client_first: bool,
@@ -31,14 +31,14 @@ pub struct Mechanism {
 }
 
 // The table of mechanisms: the first `count` records.
-#[derive(Drop)]
+#[derive(Clone, Copy)]
 pub struct Mechanisms {
     pub records: [Mechanism; MOST_MECHANISMS],
     pub count: usize,
 }
 
 // An open connection: its number and its session.
-#[derive(Drop)]
+#[derive(Clone, Copy)]
 pub struct Connection {
     pub session: Session,
     pub number: u64,

@@ -12,7 +12,7 @@ use profile::{Profile, Reply};
 // Refused: nothing changed. Forward (document 01: passed on): the identity to relay, with an address's length.
 // Query (document 01: a question): the ticket, whether it only starts an exchange, the response's length.
 // Reply: the text of an event. EmptyChallenge: a challenge of no octets. Challenge: one of the verdict's data.
-#[derive(Drop)]
+#[derive(Clone, Copy)]
 pub enum Answer {
     Refused(Refusal),
     Forward {
@@ -30,7 +30,7 @@ pub enum Answer {
 }
 
 // An answer in numbers, each 0 where the answer has none. `length` counts the octets of a query's response, an address or a reply.
-#[derive(Drop)]
+#[derive(Clone, Copy)]
 pub struct Numbers {
     pub refusal: u64,
     pub kind: u64,

@@ -8,7 +8,7 @@ use profile::Reply;
 use profile::numbers::{Identity, Refusal};
 
 // What a step makes of a session, but for its name, and what it gives.
-#[derive(Drop)]
+#[derive(Clone, Copy)]
 pub(crate) struct Change {
     pub greeted: bool,
     pub transaction: bool,

@@ -32,7 +32,7 @@ pub mod verdict;
 pub mod view;
 
 // Where a session stands: at most one of signed in, awaiting a response and waiting on a ticket. `sent` counts the exchange's challenges.
-#[derive(Drop)]
+#[derive(Clone, Copy)]
 pub enum Phase {
     Idle,
     SignedIn,
@@ -41,7 +41,7 @@ pub enum Phase {
 }
 
 // A connection's session. The name is padded with NUL; where nobody is signed in it is NUL alone.
-#[derive(Drop)]
+#[derive(Clone, Copy)]
 pub struct Session {
     pub name: [u8; Session::LONGEST_NAME],
     pub profile: Profile,
@@ -52,7 +52,7 @@ pub struct Session {
 }
 
 // The next session, and the answer.
-#[derive(Drop)]
+#[derive(Clone, Copy)]
 pub struct Stepped {
     pub session: Session,
     pub answer: Answer,

@@ -14,7 +14,7 @@ use octets::Decoded;
 
 // A line as a session sees it, with where things stand and how long they decode to, and no octets: a command where no exchange runs, a
 // response where one is awaited. While a ticket waits a line is not read.
-#[derive(Drop)]
+#[derive(Clone, Copy)]
 pub enum View {
     Command(Command),
     Response(Response),
@@ -22,7 +22,7 @@ pub enum View {
 }
 
 // What the server has of the mechanism that an AUTH line names.
-#[derive(Drop)]
+#[derive(Clone, Copy)]
 pub enum Offer {
     Absent,
     Present {

@@ -15,7 +15,7 @@ use session::answer::Answer;
 use session::view::{Offer, View};
 use textvectors::show::{put, quoted};
 
-#[derive(Drop)]
+#[derive(Clone, Copy)]
 struct Run {
     session: Session,
     ticket: u64,

@@ -1,7 +1,7 @@
 // The two forms of text, so that a case is written once for both.
 use octets::{Decoded, Encoded, Measured};
 
-#[derive(Drop)]
+#[derive(Clone, Copy)]
 pub(crate) enum Form {
     Base64,
     Xtext,

@@ -8,7 +8,7 @@ use image::Found;
 use profile::numbers::Refusal;
 
 // The index of the connection's slot, or why the call is refused.
-#[derive(Drop)]
+#[derive(Clone, Copy)]
 pub(crate) enum Place {
     At(usize),
     Refused(Refusal),

@@ -30,7 +30,7 @@ pub const ANSWER_OCTETS: usize = 9213;
 
 // What open gives.
 #[repr(C)]
-#[derive(Drop)]
+#[derive(Clone, Copy)]
 pub struct Opened {
     pub refusal: u64,
     pub connection: u64,
@@ -38,7 +38,7 @@ pub struct Opened {
 
 // What line gives.
 #[repr(C)]
-#[derive(Drop)]
+#[derive(Clone, Copy)]
 pub struct LineAnswer {
     pub refusal: u64,
     pub kind: u64,
@@ -50,7 +50,7 @@ pub struct LineAnswer {
 
 // What verdict gives.
 #[repr(C)]
-#[derive(Drop)]
+#[derive(Clone, Copy)]
 pub struct Said {
     pub refusal: u64,
     pub length: u64,
@@ -58,7 +58,7 @@ pub struct Said {
 
 // What who gives.
 #[repr(C)]
-#[derive(Drop)]
+#[derive(Clone, Copy)]
 pub struct Borne {
     pub refusal: u64,
     pub signed_in: u64,

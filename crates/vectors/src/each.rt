@@ -2,7 +2,7 @@
 use crate::readings;
 use profile::Profile;
 
-#[derive(Drop)]
+#[derive(Clone, Copy)]
 enum Case {
     Line(Profile),
     Response(Profile),

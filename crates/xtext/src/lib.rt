@@ -13,7 +13,7 @@ pub mod reader;
 use octets::{Decoded, Encoded, Measured};
 
 // A character of a text: the octet that it stands for and the index after it. End: the text has none there.
-#[derive(Drop)]
+#[derive(Clone, Copy)]
 pub enum Character {
     End,
     Malformed,

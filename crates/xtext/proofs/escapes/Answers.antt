@@ -1,0 +1,20 @@
+use Prim.Native.Nat.{◌+◌, ◌*◌, ◌-◌, ◌≤◌}
+use Rattle.xtext.proofs.Turns.{spell-self, spell-escape, length-turn, encode-end}
+use Rattle.xtext.specs.Xtext.{encode}
+use borrow.Author.Rules.{rules}
+use borrow.Author.Tests.{not-true, not-false}
+use lib.ListN.{length, get_or, drop}
+use mathlib.Core.Logic.{⊎_elim}
+use mathlib.Core.Path.{◌≡◌, sym, ap, ◌∙◌}
+use native.Mathlib.Omega.{arith}
+use Rattle.xtext.proofs.escapes.Goals as goal
+
+pub loop-i-preserved : goal.loop-i-preserved
+loop-i-preserved c = let e = length-turn c.args.bytes.now c.loop-i.i (omega arith) in
+    ⊎_elim
+    (λ w. (omega arith, omega arith, omega (arith, e, ap length (spell-escape (get_or c.args.bytes.now c.loop-i.i 0) (sym c.is_xchar.ensures ∙ not-true _ w.0.taken)))))
+    (λ w. (omega arith, omega arith, omega (arith, e, ap length (spell-self (get_or c.args.bytes.now c.loop-i.i 0) (sym c.is_xchar.ensures ∙ not-false _ w.0.left)))))
+    c.if-not-is_xchar.branch
+
+pub returns : goal.returns
+returns c = omega (arith, ap length (encode-end c.args.bytes.now c.loop-i.i (omega arith)))

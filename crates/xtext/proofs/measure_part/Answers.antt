@@ -1,0 +1,5 @@
+use borrow.Author.Rules.{rules}
+use Rattle.xtext.proofs.measure_part.Goals as goal
+
+pub returns : goal.returns
+returns c = rw (← c.part.ensures) c.measure_at.ensures

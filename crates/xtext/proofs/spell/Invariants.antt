@@ -1,0 +1,17 @@
+use Prim.Native.Nat.{◌+◌, ◌-◌, ◌≤◌}
+use Rattle.octets.proofs.Lists.{store-part}
+use Rattle.xtext.proofs.Turns.{encode-turn, length-turn, encode-end}
+use Rattle.xtext.specs.Private.{spelling}
+use Rattle.xtext.specs.Xtext.{encode}
+use borrow.Author.Rules.{rules}
+use lib.ListN.{length, get_or, drop}
+use lib.Seq.{sets}
+use mathlib.Core.Path.{◌≡◌, ap}
+use native.Mathlib.Omega.{arith}
+use Rattle.xtext.proofs.spell.Given as goal
+
+abbrev pub invariant-loop-i : goal.invariant-loop-i
+invariant-loop-i l = (l.i ≤ length l.bytes) × (length l.out ≡ length l.initial.out) × (l.n + length (encode (drop l.i l.bytes)) ≡ l.at + length (encode l.bytes)) × (sets l.out l.n (encode (drop l.i l.bytes)) ≡ sets l.initial.out l.at (encode l.bytes))
+
+abbrev pub decreases-loop-i : goal.decreases-loop-i
+decreases-loop-i l = length l.bytes - l.i
