@@ -1,0 +1,16 @@
+use Prim.Native.Nat.{◌-◌}
+use Rattle.octets.proofs.Every.{every-step, every-stop, every-end}
+use Rattle.octets.specs.Lists.{every}
+use Rattle.script.specs.Hex.{hexdig}
+use borrow.Author.Rules.{rules}
+use borrow.Author.Tests.{lt-ltb, le-ltb}
+use lib.ListN.{length, drop}
+use mathlib.Core.Path.{◌≡◌, ◌∙◌, refl}
+use native.Mathlib.Omega.{arith}
+use Rattle.script.proofs.hex.is_hex.Given as goal
+
+abbrev pub invariant-loop-i : goal.invariant-loop-i
+invariant-loop-i l = every hexdig (drop l.i l.text) ≡ every hexdig l.text
+
+abbrev pub decreases-loop-i : goal.decreases-loop-i
+decreases-loop-i l = length l.text - l.i
