@@ -6,4 +6,3 @@ pub mod Parameters
 pub mod Lines
 pub mod Whole
 pub mod Laws
-pub mod Readings

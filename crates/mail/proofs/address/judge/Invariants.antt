@@ -1,0 +1,19 @@
+use Prim.Native.Nat.{◌+◌, ◌-◌, ◌≤◌}
+use Rattle.mail.proofs.States.{going, going_start}
+use Rattle.mail.proofs.Values.{none_before, ended, finished, broken, moves, same_end, goes_on}
+use Rattle.mail.specs.Mail.{space}
+use Rattle.mail.specs.Private.{judged}
+use Rattle.octets.specs.Lists.{before}
+use borrow.Author.Rules.{rules}
+use lib.ListN.{length, drop}
+use mathlib.Core.Path.{◌≡◌, refl, sym, ◌∙◌}
+use native.Mathlib.Omega.{arith}
+use Rattle.mail.proofs.address.judge.Given as goal
+
+abbrev pub invariant-loop-value : goal.invariant-loop-value
+invariant-loop-value l = (l.n ≤ l.i)
+    × (l.i + length (before space (drop l.i l.line)) ≡ l.from + length (before space (drop l.from l.line)))
+    × (going l.s l.n (l.from + length (before space (drop l.from l.line))) (before space (drop l.i l.line)) ≡ judged (l.from + length (before space (drop l.from l.line))) (before space (drop l.from l.line)))
+
+abbrev pub decreases-loop-value : goal.decreases-loop-value
+decreases-loop-value l = length l.line - l.i

@@ -1,0 +1,16 @@
+use Prim.Native.Nat.{◌-◌}
+use Rattle.mail.proofs.Lines.{rest_end, no-space, refuses, malformed, other-next, null-next, address-next, submitter_next}
+use Rattle.mail.specs.Private.{read_parameters}
+use Rattle.mail.specs.declared.Mail.TheVariants.{Absent}
+use borrow.Author.Rules.{rules}
+use lib.ListN.{length, drop}
+use mathlib.Core.Bool.{false}
+use mathlib.Core.Path.{◌≡◌, refl, sym, ◌∙◌}
+use native.Mathlib.Omega.{arith}
+use Rattle.mail.proofs.read_parameters.Given as goal
+
+abbrev pub invariant-loop-i : goal.invariant-loop-i
+invariant-loop-i l = read_parameters l.auth l.submitter l.i (drop l.i l.line) ≡ read_parameters Absent false l.at (drop l.at l.line)
+
+abbrev pub decreases-loop-i : goal.decreases-loop-i
+decreases-loop-i l = length l.line - l.i
