@@ -1,6 +1,4 @@
 use Rattle.mail.proofs.Whole.{begins-past, opens-is, no-opening, no-path, whole}
-use borrow.Author.Rules.{rules}
-use borrow.Author.Tests.{not-true, not-false}
 use mathlib.Core.Path.{sym, ◌∙◌}
 use native.Mathlib.Omega.{arith}
 use Rattle.mail.proofs.mail_from.Goals as goal

@@ -1,5 +1,4 @@
 use Rattle.mail.specs.Mail.{mail}
-use borrow.Author.Rules.{rules}
 use Rattle.mail.proofs.read_mail.Goals as goal
 
 pub returns : goal.returns

@@ -1,11 +1,5 @@
-use Prim.Native.Nat.{◌-◌}
 use Rattle.mail.proofs.Lines.{rest_end, no-space, refuses, malformed, other-next, null-next, address-next, submitter_next}
-use Rattle.mail.specs.Private.{read_parameters}
-use Rattle.mail.specs.declared.Mail.TheVariants.{Absent}
-use borrow.Author.Rules.{rules}
-use lib.ListN.{length, drop}
-use mathlib.Core.Bool.{false}
-use mathlib.Core.Path.{◌≡◌, refl, sym, ◌∙◌}
+use mathlib.Core.Path.{refl, sym, ◌∙◌}
 use native.Mathlib.Omega.{arith}
 use Rattle.mail.proofs.read_parameters.Goals as goal
 

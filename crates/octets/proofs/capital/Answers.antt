@@ -1,5 +1,4 @@
 use Rattle.octets.proofs.Words.{is-small, is_below, is-above}
-use borrow.Author.Rules.{rules}
 use native.Mathlib.Omega.{arith}
 use Rattle.octets.proofs.capital.Goals as goal
 

@@ -1,10 +1,7 @@
 use Prim.Native.Nat.{◌+◌, ◌-◌}
-use Rattle.octets.proofs.Words.{before-step, before-stop, before-end}
 use Rattle.octets.specs.Lists.{before}
-use borrow.Author.Rules.{rules}
 use lib.ListN.{length, drop}
-use mathlib.Core.Path.{◌≡◌, ◌∙◌, ap}
-use native.Mathlib.Omega.{arith}
+use mathlib.Core.Path.{◌≡◌}
 use Rattle.octets.proofs.find.Given as goal
 
 abbrev pub invariant-loop-i : goal.invariant-loop-i

@@ -1,10 +1,8 @@
-use Prim.Native.Nat.{◌-◌, ◌≤◌}
 use Rattle.octets.proofs.Words.{same_step, same_stop, same_end, same-lengths, get_d_capitals}
 use Rattle.octets.specs.Ascii.{capital, capitals}
-use Rattle.octets.specs.Lists.{same}
 use borrow.Author.Rules.{rules}
-use lib.ListN.{length, drop, length-map}
-use mathlib.Core.Path.{◌≡◌, sym, ◌∙◌}
+use lib.ListN.{length-map}
+use mathlib.Core.Path.{sym, ◌∙◌}
 use native.Mathlib.Omega.{arith}
 use Rattle.octets.proofs.is_word.Goals as goal
 

@@ -1,11 +1,8 @@
 use Prim.Native.Nat.{◌-◌, ◌≤◌}
-use Rattle.octets.proofs.Words.{same_step, same_stop, same_end, same-lengths, get_d_capitals}
-use Rattle.octets.specs.Ascii.{capital, capitals}
+use Rattle.octets.specs.Ascii.{capitals}
 use Rattle.octets.specs.Lists.{same}
-use borrow.Author.Rules.{rules}
-use lib.ListN.{length, drop, length-map}
-use mathlib.Core.Path.{◌≡◌, sym, ◌∙◌}
-use native.Mathlib.Omega.{arith}
+use lib.ListN.{length, drop}
+use mathlib.Core.Path.{◌≡◌}
 use Rattle.octets.proofs.is_word.Given as goal
 
 abbrev pub invariant-loop-i : goal.invariant-loop-i

@@ -1,5 +1,4 @@
 use Rattle.octets.proofs.Lists.{cut, cut-end, cut-none}
-use borrow.Author.Rules.{rules}
 use native.Mathlib.Omega.{arith}
 use Rattle.octets.proofs.part.Goals as goal
 

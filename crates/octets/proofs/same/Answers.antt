@@ -1,10 +1,6 @@
-use Prim.Native.Nat.{◌-◌, ◌≤◌}
 use Rattle.octets.proofs.Words.{same_turn, same-last, same-lengths}
-use Rattle.octets.specs.Lists.{same}
 use borrow.Author.Rules.{rules}
-use lib.ListN.{length, drop}
-use mathlib.Core.Bool.{◌&&◌}
-use mathlib.Core.Path.{◌≡◌, refl, sym, ◌∙◌}
+use mathlib.Core.Path.{refl, sym, ◌∙◌}
 use native.Mathlib.Omega.{arith}
 use Rattle.octets.proofs.same.Goals as goal
 

@@ -1,12 +1,7 @@
 use Prim.Native.Nat.{◌+◌, ◌-◌, ◌≤◌}
-use Rattle.octets.proofs.Answers.{no_room, room}
-use Rattle.octets.proofs.Lists.{stored_one, stored-all}
-use borrow.Author.Rules.{rules}
 use lib.ListN.{length, drop}
 use lib.Seq.{sets}
-use mathlib.Core.Path.{◌≡◌, refl}
-use native.Mathlib.Nat.{add-zero}
-use native.Mathlib.Omega.{arith}
+use mathlib.Core.Path.{◌≡◌}
 use Rattle.octets.proofs.write.Given as goal
 
 abbrev pub invariant-loop-i : goal.invariant-loop-i

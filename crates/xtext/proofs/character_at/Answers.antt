@@ -1,5 +1,4 @@
 use Rattle.xtext.proofs.Walk.{at-end, at-escape, at_self, at_none}
-use borrow.Author.Rules.{rules}
 use mathlib.Core.Path.{sym, ◌∙◌}
 use native.Mathlib.Omega.{arith}
 use Rattle.xtext.proofs.character_at.Goals as goal

@@ -1,7 +1,6 @@
 use Rattle.octets.proofs.Answers.{no_room, room}
 use Rattle.xtext.proofs.Turns.{encode-longer}
 use Rattle.xtext.specs.Xtext.{encode}
-use borrow.Author.Rules.{rules}
 use native.Mathlib.Omega.{arith}
 use Rattle.xtext.proofs.encode.Goals as goal
 

@@ -1,5 +1,4 @@
 use Rattle.xtext.proofs.Walk.{escape-short, escape-first, escape-second, escape-both}
-use borrow.Author.Rules.{rules}
 use native.Mathlib.Omega.{arith}
 use Rattle.xtext.proofs.escape_at.Goals as goal
 

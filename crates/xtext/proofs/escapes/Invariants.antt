@@ -1,12 +1,7 @@
 use Prim.Native.Nat.{◌+◌, ◌*◌, ◌-◌, ◌≤◌}
-use Rattle.xtext.proofs.Turns.{spell-self, spell-escape, length-turn, encode-end}
 use Rattle.xtext.specs.Xtext.{encode}
-use borrow.Author.Rules.{rules}
-use borrow.Author.Tests.{not-true, not-false}
-use lib.ListN.{length, get_or, drop}
-use mathlib.Core.Logic.{⊎_elim}
-use mathlib.Core.Path.{◌≡◌, sym, ap, ◌∙◌}
-use native.Mathlib.Omega.{arith}
+use lib.ListN.{length, drop}
+use mathlib.Core.Path.{◌≡◌}
 use Rattle.xtext.proofs.escapes.Given as goal
 
 abbrev pub invariant-loop-i : goal.invariant-loop-i

@@ -1,9 +1,6 @@
-use Prim.Native.Nat.{◌-◌, ◌≤◌}
 use Rattle.xtext.proofs.Grammar.{grammar}
-use Rattle.xtext.proofs.Turns.{Stands, Escape, Filled, is-escape, is-self, fits, filled, all-filled}
+use Rattle.xtext.proofs.Turns.{is-escape, is-self, fits, filled, all-filled}
 use borrow.Author.Rules.{rules}
-use lib.ListN.{length, get_or}
-use mathlib.Core.Logic.{⊎_elim}
 use mathlib.Core.Path.{refl}
 use native.Mathlib.Omega.{arith}
 use Rattle.xtext.proofs.fill.Goals as goal
@@ -42,14 +39,16 @@ loop-i-smaller c = elim c.if-x-eq43.branch [ then-x-eq43 w ↦ omega arith | els
 pub loop-i-preserved : goal.loop-i-preserved
 loop-i-preserved c =
     elim c.if-x-eq43.branch [
-      then-x-eq43 w ↦
-        (omega arith,
-         filled _ _ _ _ _ c.loop-i.invariant.1 3 w.hexchar.result
-         (rw w.hexchar.ensures (is-escape c.args.text.now c.loop-i.i c.loop-i.invariant.1.text w.if-x-eq43.true).stands) _ _ w.out-is w.i-is)
-    | else-x-eq43 w ↦
-        (omega arith,
-         filled _ _ _ _ _ c.loop-i.invariant.1 1 _
-         (is-self c.args.text.now c.loop-i.i c.loop-i.invariant.1.text (omega arith) w.if-x-eq43.false) _ _ w.out-is w.i-is)
+      | then-x-eq43 w ↦ (
+        omega arith,
+        filled _ _ _ _ _ c.loop-i.invariant.1 3 w.hexchar.result
+            (rw w.hexchar.ensures (is-escape c.args.text.now c.loop-i.i c.loop-i.invariant.1.text w.if-x-eq43.true).stands) _ _ w.out-is w.i-is,
+      )
+      | else-x-eq43 w ↦ (
+        omega arith,
+        filled _ _ _ _ _ c.loop-i.invariant.1 1 _
+            (is-self c.args.text.now c.loop-i.i c.loop-i.invariant.1.text (omega arith) w.if-x-eq43.false) _ _ w.out-is w.i-is,
+      )
     ]
 
 pub returns : goal.returns

@@ -1,5 +1,4 @@
 use Rattle.xtext.proofs.Characters.{kind-number}
-use borrow.Author.Rules.{rules}
 use native.Mathlib.Omega.{arith}
 use Rattle.xtext.proofs.hexchar.Goals as goal
 

@@ -1,5 +1,4 @@
 use Rattle.xtext.proofs.Characters.{no_end}
-use borrow.Author.Rules.{rules}
 use native.Mathlib.Omega.{arith}
 use Rattle.xtext.proofs.is_hexchar_at.Goals as goal
 

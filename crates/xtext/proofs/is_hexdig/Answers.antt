@@ -1,5 +1,4 @@
 use Rattle.xtext.proofs.Characters.{kind-hexdig}
-use borrow.Author.Rules.{rules}
 use Rattle.xtext.proofs.is_hexdig.Goals as goal
 
 pub returns : goal.returns

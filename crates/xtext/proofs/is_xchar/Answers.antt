@@ -1,5 +1,4 @@
 use Rattle.xtext.proofs.Characters.{kind-xchar}
-use borrow.Author.Rules.{rules}
 use Rattle.xtext.proofs.is_xchar.Goals as goal
 
 pub returns : goal.returns

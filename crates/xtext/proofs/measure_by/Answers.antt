@@ -1,11 +1,8 @@
-use Prim.Native.Nat.{◌+◌, ◌-◌, ◌≤◌}
+use Prim.Native.Nat.{◌+◌, ◌-◌}
 use Rattle.octets.proofs.Answers.{resumed-zero}
-use Rattle.xtext.proofs.Turns.{from, xchar-turn, hexchar-turn, no-turn, finished}
-use Rattle.xtext.specs.Xtext.{measured, valid, octets}
+use Rattle.xtext.proofs.Turns.{xchar-turn, hexchar-turn, no-turn, finished}
+use Rattle.xtext.specs.Xtext.{valid, octets}
 use borrow.Author.Rules.{rules}
-use borrow.Author.Tests.{not-true, not-false}
-use lib.ListN.{length, drop}
-use mathlib.Core.Logic.{⊎_elim}
 use mathlib.Core.Path.{◌≡◌, sym, ◌∙◌}
 use native.Mathlib.Omega.{arith}
 use Rattle.xtext.proofs.measure_by.Goals as goal
@@ -26,15 +23,16 @@ loop-i-smaller c = elim c.if-not-is_xchar.branch [ then-not-is_xchar+else-not-is
 pub loop-i-preserved : goal.loop-i-preserved
 loop-i-preserved c =
     elim c.if-not-is_xchar.branch [
-      then-not-is_xchar+else-not-is_hexchar_at w ↦
-        (let z : c.if-not-is_xchar.i + 1 - c.if-not-is_xchar.more ≡ c.loop-i.i - c.loop-i.more + 1 = omega arith in
-         let y : c.if-not-is_xchar.i + 1 ≡ c.loop-i.i + 3 = omega arith in
-         (omega arith,
-          rw (z, y) (hexchar-turn _ c.loop-i.i _ c.loop-i.invariant.1 (omega arith) (sym w.is_hexchar_at.ensures ∙ w.if-not-is_hexchar_at.false))))
-    | else-not-is_xchar w ↦
-        (let z : c.if-not-is_xchar.i + 1 - c.if-not-is_xchar.more ≡ c.loop-i.i - c.loop-i.more + 1 = omega arith in
-         let y : c.if-not-is_xchar.i + 1 ≡ c.loop-i.i + 1 = omega arith in
-         (omega arith, rw (z, y) (xchar-turn _ c.loop-i.i _ c.loop-i.invariant.1 (omega arith) (sym c.is_xchar.ensures ∙ w.if-not-is_xchar.false))))
+      | then-not-is_xchar+else-not-is_hexchar_at w ↦
+          (let z : c.if-not-is_xchar.i + 1 - c.if-not-is_xchar.more ≡ c.loop-i.i - c.loop-i.more + 1 = omega arith in
+          let y : c.if-not-is_xchar.i + 1 ≡ c.loop-i.i + 3 = omega arith in (
+            omega arith,
+            rw (z, y) (hexchar-turn _ c.loop-i.i _ c.loop-i.invariant.1 (omega arith) (sym w.is_hexchar_at.ensures ∙ w.if-not-is_hexchar_at.false)),
+          ))
+      | else-not-is_xchar w ↦
+          (let z : c.if-not-is_xchar.i + 1 - c.if-not-is_xchar.more ≡ c.loop-i.i - c.loop-i.more + 1 = omega arith in
+          let y : c.if-not-is_xchar.i + 1 ≡ c.loop-i.i + 1 = omega arith in
+          (omega arith, rw (z, y) (xchar-turn _ c.loop-i.i _ c.loop-i.invariant.1 (omega arith) (sym c.is_xchar.ensures ∙ w.if-not-is_xchar.false))))
     ]
 
 pub returns : goal.returns

@@ -1,13 +1,8 @@
-use Prim.Native.Nat.{◌+◌, ◌-◌, ◌≤◌}
-use Rattle.octets.proofs.Answers.{resumed-zero}
-use Rattle.xtext.proofs.Turns.{from, xchar-turn, hexchar-turn, no-turn, finished}
-use Rattle.xtext.specs.Xtext.{measured, valid, octets}
-use borrow.Author.Rules.{rules}
-use borrow.Author.Tests.{not-true, not-false}
+use Prim.Native.Nat.{◌-◌, ◌≤◌}
+use Rattle.xtext.proofs.Turns.{from}
+use Rattle.xtext.specs.Xtext.{measured}
 use lib.ListN.{length, drop}
-use mathlib.Core.Logic.{⊎_elim}
-use mathlib.Core.Path.{◌≡◌, sym, ◌∙◌}
-use native.Mathlib.Omega.{arith}
+use mathlib.Core.Path.{◌≡◌}
 use Rattle.xtext.proofs.measure_by.Given as goal
 
 abbrev pub invariant-loop-i : goal.invariant-loop-i

@@ -1,7 +1,6 @@
 use Prim.Native.Nat.{ℕ, ◌-◌}
 use Rattle.xtext.proofs.Walk.{in_range}
 use Rattle.xtext.specs.Xtext.{number, digits}
-use borrow.Author.Rules.{rules}
 use native.Mathlib.Omega.{arith}
 use Rattle.xtext.proofs.number.Goals as goal
 

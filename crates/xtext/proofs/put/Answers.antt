@@ -1,11 +1,6 @@
-use Prim.Native.Nat.{◌/◌, ◌%◌}
 use Rattle.xtext.proofs.Turns.{spell-self, spell-escape}
-use Rattle.xtext.specs.Private.{spelling}
-use Rattle.xtext.specs.Xtext.{digit, plus}
-use borrow.Author.Rules.{rules}
 use lib.ListN.{length, length-set}
-use mathlib.Core.List.{[], ◌∷◌}
-use mathlib.Core.Path.{◌≡◌, refl, sym, ap, ◌∙◌}
+use mathlib.Core.Path.{refl, sym, ap, ◌∙◌}
 use native.Mathlib.Numerals.{add-one, add-two}
 use native.Mathlib.Omega.{arith}
 use Rattle.xtext.proofs.put.Goals as goal

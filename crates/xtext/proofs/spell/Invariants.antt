@@ -1,13 +1,8 @@
 use Prim.Native.Nat.{◌+◌, ◌-◌, ◌≤◌}
-use Rattle.octets.proofs.Lists.{store-part}
-use Rattle.xtext.proofs.Turns.{encode-turn, length-turn, encode-end}
-use Rattle.xtext.specs.Private.{spelling}
 use Rattle.xtext.specs.Xtext.{encode}
-use borrow.Author.Rules.{rules}
-use lib.ListN.{length, get_or, drop}
+use lib.ListN.{length, drop}
 use lib.Seq.{sets}
-use mathlib.Core.Path.{◌≡◌, ap}
-use native.Mathlib.Omega.{arith}
+use mathlib.Core.Path.{◌≡◌}
 use Rattle.xtext.proofs.spell.Given as goal
 
 abbrev pub invariant-loop-i : goal.invariant-loop-i

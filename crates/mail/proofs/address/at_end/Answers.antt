@@ -1,4 +1,3 @@
-use borrow.Author.Rules.{rules}
 use Rattle.mail.proofs.address.at_end.Goals as goal
 
 pub returns-in-Null : goal.returns-in-Null

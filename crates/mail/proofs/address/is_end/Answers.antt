@@ -1,5 +1,4 @@
 use Rattle.mail.proofs.Spans.{end-spaced, at-spaced}
-use borrow.Author.Rules.{rules}
 use native.Mathlib.Omega.{arith}
 use Rattle.mail.proofs.address.is_end.Goals as goal
 

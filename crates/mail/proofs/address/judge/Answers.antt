@@ -1,12 +1,7 @@
-use Prim.Native.Nat.{◌+◌, ◌-◌, ◌≤◌}
-use Rattle.mail.proofs.States.{going, going_start}
+use Rattle.mail.proofs.States.{going_start}
 use Rattle.mail.proofs.Values.{none_before, ended, finished, broken, moves, same_end, goes_on}
-use Rattle.mail.specs.Mail.{space}
-use Rattle.mail.specs.Private.{judged}
-use Rattle.octets.specs.Lists.{before}
 use borrow.Author.Rules.{rules}
-use lib.ListN.{length, drop}
-use mathlib.Core.Path.{◌≡◌, refl, sym, ◌∙◌}
+use mathlib.Core.Path.{refl, sym, ◌∙◌}
 use native.Mathlib.Omega.{arith}
 use Rattle.mail.proofs.address.judge.Goals as goal
 

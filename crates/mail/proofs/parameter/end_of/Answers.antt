@@ -1,10 +1,6 @@
-use Prim.Native.Nat.{◌+◌, ◌-◌}
 use Rattle.mail.proofs.Spans.{span-step, span-stop, span-end}
-use Rattle.mail.specs.Private.{char_of, span}
-use borrow.Author.Rules.{rules}
-use borrow.Author.Tests.{not-true, not-false}
-use lib.ListN.{length, drop}
-use mathlib.Core.Path.{◌≡◌, sym, ◌∙◌}
+use Rattle.mail.specs.Private.{char_of}
+use mathlib.Core.Path.{sym, ◌∙◌}
 use native.Mathlib.Omega.{arith}
 use Rattle.mail.proofs.parameter.end_of.Goals as goal
 

@@ -1,11 +1,7 @@
 use Prim.Native.Nat.{◌+◌, ◌-◌}
-use Rattle.mail.proofs.Spans.{span-step, span-stop, span-end}
 use Rattle.mail.specs.Private.{char_of, span}
-use borrow.Author.Rules.{rules}
-use borrow.Author.Tests.{not-true, not-false}
 use lib.ListN.{length, drop}
-use mathlib.Core.Path.{◌≡◌, sym, ◌∙◌}
-use native.Mathlib.Omega.{arith}
+use mathlib.Core.Path.{◌≡◌}
 use Rattle.mail.proofs.parameter.end_of.Given as goal
 
 abbrev pub invariant-loop-i : goal.invariant-loop-i

@@ -1,4 +1,3 @@
-use borrow.Author.Rules.{rules}
 use Rattle.mail.proofs.parameter.is_keyword_char.Goals as goal
 
 pub returns : goal.returns

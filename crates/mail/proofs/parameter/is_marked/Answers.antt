@@ -1,5 +1,4 @@
 use Rattle.mail.proofs.Parameters.{end_marked, at-marked}
-use borrow.Author.Rules.{rules}
 use native.Mathlib.Omega.{arith}
 use Rattle.mail.proofs.parameter.is_marked.Goals as goal
 

@@ -1,4 +1,3 @@
-use borrow.Author.Rules.{rules}
 use Rattle.mail.proofs.parameter.is_of.Goals as goal
 
 pub returns-in-Keyword : goal.returns-in-Keyword

@@ -1,6 +1,4 @@
 use Rattle.mail.proofs.Parameters.{no-parameter, no-first, auth-word, submitter_word, other_word}
-use borrow.Author.Rules.{rules}
-use borrow.Author.Tests.{not-true, not-false}
 use mathlib.Core.Path.{sym, ◌∙◌}
 use native.Mathlib.Omega.{arith}
 use Rattle.mail.proofs.parameter.read.Goals as goal

@@ -1,6 +1,4 @@
 use Rattle.mail.proofs.Parameters.{auth_unmarked, marked_in, auth-judged}
-use borrow.Author.Rules.{rules}
-use borrow.Author.Tests.{not-true, not-false}
 use mathlib.Core.Path.{sym, ◌∙◌}
 use native.Mathlib.Omega.{arith}
 use Rattle.mail.proofs.parameter.read_auth.Goals as goal

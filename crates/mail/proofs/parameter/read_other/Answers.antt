@@ -1,5 +1,4 @@
 use Rattle.mail.proofs.Parameters.{not-ended, bare, no-equals, no_value, no_end, valued}
-use borrow.Author.Rules.{rules}
 use mathlib.Core.Path.{sym, ◌∙◌}
 use native.Mathlib.Omega.{arith}
 use Rattle.mail.proofs.parameter.read_other.Goals as goal

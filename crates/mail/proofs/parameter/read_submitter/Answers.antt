@@ -1,6 +1,4 @@
 use Rattle.mail.proofs.Parameters.{submitter_unmarked, marked_in, submitter_judged}
-use borrow.Author.Rules.{rules}
-use borrow.Author.Tests.{not-true, not-false}
 use mathlib.Core.Path.{sym, ◌∙◌}
 use native.Mathlib.Omega.{arith}
 use Rattle.mail.proofs.parameter.read_submitter.Goals as goal

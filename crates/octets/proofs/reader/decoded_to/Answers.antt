@@ -1,5 +1,4 @@
 use Rattle.octets.proofs.TextReaders.{decoded-took, decoded-left, decoded-short}
-use borrow.Author.Rules.{rules}
 use Rattle.octets.proofs.reader.decoded_to.Goals as goal
 
 pub returns-in-Length : goal.returns-in-Length

@@ -1,5 +1,4 @@
 use Rattle.octets.proofs.TextReaders.{measured-took, measured-left}
-use borrow.Author.Rules.{rules}
 use Rattle.octets.proofs.reader.measured_to.Goals as goal
 
 pub returns-in-Length : goal.returns-in-Length

@@ -1,6 +1,4 @@
 use Rattle.script.proofs.Parts.{ends-within, unfit, fit}
-use borrow.Author.Rules.{rules}
-use borrow.Author.Tests.{not-true, not-false}
 use mathlib.Core.Path.{sym, ◌∙◌}
 use native.Mathlib.Omega.{arith}
 use Rattle.script.proofs.command.arguments.Goals as goal

@@ -1,5 +1,4 @@
 use Rattle.script.proofs.Parts.{called, word-ends}
-use borrow.Author.Rules.{rules}
 use mathlib.Core.Path.{◌∙◌}
 use native.Mathlib.Omega.{arith}
 use Rattle.script.proofs.command.call.Goals as goal

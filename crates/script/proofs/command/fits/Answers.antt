@@ -1,4 +1,3 @@
-use borrow.Author.Rules.{rules}
 use Rattle.script.proofs.command.fits.Goals as goal
 
 pub returns-in-Hexline : goal.returns-in-Hexline

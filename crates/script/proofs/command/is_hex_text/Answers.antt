@@ -1,6 +1,5 @@
 use Prim.Native.Nat.{◌+◌, ◌%◌}
 use Rattle.script.specs.Command.{hex_text}
-use borrow.Author.Rules.{rules}
 use lib.ListN.{length}
 use mathlib.Core.Path.{◌≡◌}
 use native.Mathlib.Omega.{arith}

@@ -1,4 +1,3 @@
-use borrow.Author.Rules.{rules}
 use Rattle.script.proofs.command.made.Goals as goal
 
 pub returns-in-Line : goal.returns-in-Line

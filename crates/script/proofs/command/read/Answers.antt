@@ -1,5 +1,4 @@
 use Rattle.script.specs.Command.{command}
-use borrow.Author.Rules.{rules}
 use mathlib.Core.Path.{sym, ◌∙◌}
 use Rattle.script.proofs.command.read.Goals as goal
 

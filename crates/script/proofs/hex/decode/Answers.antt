@@ -5,7 +5,6 @@ use Rattle.octets.specs.declared.Measured.{Measured}
 use Rattle.script.proofs.Hexadecimal.{length-octets}
 use Rattle.script.specs.Hex.{hexdig, octets}
 use borrow.Author.Rules.{rules}
-use borrow.Author.Tests.{not-true, not-false}
 use lib.ListN.{length}
 use mathlib.Core.Bool.{true}
 use mathlib.Core.Path.{◌≡◌, sym, ◌∙◌, refl}

@@ -1,5 +1,4 @@
 use Rattle.script.proofs.Hexadecimal.{before-digits, at-digits, before-letters, at-letters, after_letters}
-use borrow.Author.Rules.{rules}
 use native.Mathlib.Omega.{arith}
 use Rattle.script.proofs.hex.digit.Goals as goal
 

@@ -1,11 +1,7 @@
-use Prim.Native.Nat.{◌-◌}
 use Rattle.octets.proofs.Every.{every-step, every-stop, every-end}
-use Rattle.octets.specs.Lists.{every}
 use Rattle.script.specs.Hex.{hexdig}
-use borrow.Author.Rules.{rules}
 use borrow.Author.Tests.{lt-ltb, le-ltb}
-use lib.ListN.{length, drop}
-use mathlib.Core.Path.{◌≡◌, ◌∙◌, refl}
+use mathlib.Core.Path.{◌∙◌, refl}
 use native.Mathlib.Omega.{arith}
 use Rattle.script.proofs.hex.is_hex.Goals as goal
 

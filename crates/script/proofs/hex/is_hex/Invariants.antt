@@ -1,12 +1,8 @@
 use Prim.Native.Nat.{◌-◌}
-use Rattle.octets.proofs.Every.{every-step, every-stop, every-end}
 use Rattle.octets.specs.Lists.{every}
 use Rattle.script.specs.Hex.{hexdig}
-use borrow.Author.Rules.{rules}
-use borrow.Author.Tests.{lt-ltb, le-ltb}
 use lib.ListN.{length, drop}
-use mathlib.Core.Path.{◌≡◌, ◌∙◌, refl}
-use native.Mathlib.Omega.{arith}
+use mathlib.Core.Path.{◌≡◌}
 use Rattle.script.proofs.hex.is_hex.Given as goal
 
 abbrev pub invariant-loop-i : goal.invariant-loop-i

@@ -1,5 +1,4 @@
 use Rattle.script.proofs.Decimal.{no-octets, zero-first, not-zero-first}
-use borrow.Author.Rules.{rules}
 use mathlib.Core.Path.{◌∙◌}
 use Rattle.script.proofs.number.read_number.Goals as goal
 

@@ -1,5 +1,4 @@
 use Rattle.script.proofs.Decimal.{digit-range}
-use borrow.Author.Rules.{rules}
 use native.Mathlib.Omega.{arith}
 use Rattle.script.proofs.number.value.Goals as goal
 

@@ -1,5 +1,4 @@
 use Rattle.script.specs.Word.{bare_word_of}
-use borrow.Author.Rules.{rules}
 use mathlib.Core.Path.{sym, ◌∙◌}
 use Rattle.script.proofs.word.bare_word_of.Goals as goal
 

@@ -1,6 +1,5 @@
 use Rattle.octets.proofs.TextReaders.{decode-from}
 use Rattle.xtext.specs.Xtext.{decoded, decoded_into}
-use borrow.Author.Rules.{rules}
 use Rattle.xtext.proofs.reader.decode_from.Goals as goal
 
 pub returns : goal.returns

@@ -1,6 +1,5 @@
 use Rattle.octets.proofs.TextReaders.{measure-from}
 use Rattle.xtext.specs.Xtext.{measured}
-use borrow.Author.Rules.{rules}
 use Rattle.xtext.proofs.reader.measure_from.Goals as goal
 
 pub returns : goal.returns

@@ -1,5 +1,4 @@
 use Rattle.script.proofs.Parts.{more-kept, slice-most}
-use borrow.Author.Rules.{rules}
 use lib.ListN.{length}
 use mathlib.Core.Path.{ap}
 use native.Mathlib.Omega.{arith}

@@ -1,0 +1,5 @@
+use borrow.Author.Rules.{rules}
+use Rattle.lines.proofs.mechanism.is_mechanism.Goals as goal
+
+pub returns : goal.returns
+returns c = c.is_formed.ensures
