@@ -64,7 +64,7 @@ pub extern "C" fn bench_base64_measure(text: &[u8]) -> u64
 
 #[unsafe(no_mangle)]
 pub extern "C" fn bench_base64_decode(text: &[u8], out: &mut [u8]) -> u64
-    ensures { (result ≡ decoded_number (Base64.decoded text.now (length out.old))) × (out.new ≡ Base64.decodedInto text.now out.old) }
+    ensures { (result ≡ decoded_number (Base64.decoded text.now (length out.old))) × (out.new ≡ Base64.decoded_into text.now out.old) }
 {
     decoded_number(base64text::decode(text, out))
 }

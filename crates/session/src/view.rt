@@ -98,7 +98,7 @@ impl View {
 
     // Decodes the response that the line has to the start of out.
     pub fn decode_response(self, line: &[u8], out: &mut [u8]) -> Decoded
-        ensures { (result ≡ Base64.decoded (response_text self line.now) (length out.old)) × (out.new ≡ Base64.decodedInto (response_text self line.now) out.old) }
+        ensures { (result ≡ Base64.decoded (response_text self line.now) (length out.old)) × (out.new ≡ Base64.decoded_into (response_text self line.now) out.old) }
     {
         match self {
             View::Command(command) => decode_initial(line, auth_command(command), out),
@@ -110,7 +110,7 @@ impl View {
     // The same where the view is this line's own and the answer is a query, so that the response was measured and is base64: in one walk, which does
     // not look at its form.
     pub fn decode_response_unchecked(self, line: &[u8], out: &mut [u8])
-        ensures { out.new ≡ Base64.uncheckedInto (response_text self line.now) out.old }
+        ensures { out.new ≡ Base64.unchecked_into (response_text self line.now) out.old }
     {
         match self {
             View::Command(command) => decode_initial_unchecked(line, auth_command(command), out),

@@ -61,7 +61,7 @@ issued_in l h a = cond (is_query a) (header_written l (issued h)) l
 -- a buffer b into which what a line hands over was decoded
 unfoldable pub handed_in : Answer → View → List ℕ → List ℕ → List ℕ
 handed_in a v l b =
-    cond (is_query a) (Base64.decodedInto (response_text v l) b)
+    cond (is_query a) (Base64.decoded_into (response_text v l) b)
     (cond (relays_address a) (Xtext.decoded_into (relay_text v l) b)
     b)
 

@@ -1,5 +1,4 @@
 use Rattle.base64text.proofs.Turns.{fitted, not_fitted}
-use borrow.Author.Rules.{rules}
 use native.Mathlib.Omega.{arith}
 use Rattle.base64text.proofs.decode_unchecked.Goals as goal
 

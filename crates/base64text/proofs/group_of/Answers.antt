@@ -1,6 +1,5 @@
 use Rattle.base64text.proofs.Groups.{as_three, as_two, as_one, as_bad}
 use Rattle.base64text.specs.Base64.{three, two, one}
-use borrow.Author.Rules.{rules}
 use mathlib.Core.Path.{sym, ◌∙◌, ap}
 use Rattle.base64text.proofs.group_of.Goals as goal
 

@@ -1,4 +1,3 @@
-use borrow.Author.Rules.{rules}
 use Rattle.base64text.proofs.last.Goals as goal
 
 pub returns-in-Three : goal.returns-in-Three

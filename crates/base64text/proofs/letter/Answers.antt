@@ -1,6 +1,5 @@
 use Prim.Native.Nat.{ℕ}
 use Rattle.base64text.specs.Base64.{letter}
-use borrow.Author.Rules.{rules}
 use lib.ListN.{get_or}
 use mathlib.Core.List.{List}
 use mathlib.Core.Path.{ap}

@@ -1,4 +1,3 @@
-use borrow.Author.Rules.{rules}
 use Rattle.base64text.proofs.letters3.Goals as goal
 
 pub returns : goal.returns

@@ -1,10 +1,6 @@
-use Prim.Native.Nat.{◌-◌, ◌≤◌}
-use Rattle.base64text.proofs.Turns.{from, from_zero, went, short, finished, went_on, broke_off}
-use Rattle.base64text.specs.Base64.{measured}
+use Rattle.base64text.proofs.Turns.{from_zero, went, short, finished, went_on, broke_off}
 use borrow.Author.Rules.{rules}
-use borrow.Author.Tests.{not-true, not-false}
-use lib.ListN.{length, drop}
-use mathlib.Core.Path.{◌≡◌, sym, ◌∙◌}
+use mathlib.Core.Path.{sym, ◌∙◌}
 use native.Mathlib.Omega.{arith}
 use Rattle.base64text.proofs.measure_by.Goals as goal
 

@@ -1,4 +1,3 @@
-use borrow.Author.Rules.{rules}
 use Rattle.base64text.proofs.measure_part.Goals as goal
 
 pub returns : goal.returns

@@ -1,8 +1,5 @@
-use Prim.Native.Nat.{◌+◌, ◌-◌}
 use Rattle.base64text.proofs.Ranges.{range-turn, range-end}
-use Rattle.base64text.specs.Private.{number_range}
-use borrow.Author.Rules.{rules}
-use mathlib.Core.Path.{◌≡◌, refl}
+use mathlib.Core.Path.{refl}
 use native.Mathlib.Omega.{arith}
 use Rattle.base64text.proofs.number_range.Goals as goal
 

@@ -1,9 +1,6 @@
 use Prim.Native.Nat.{◌+◌, ◌-◌}
-use Rattle.base64text.proofs.Ranges.{range-turn, range-end}
 use Rattle.base64text.specs.Private.{number_range}
-use borrow.Author.Rules.{rules}
-use mathlib.Core.Path.{◌≡◌, refl}
-use native.Mathlib.Omega.{arith}
+use mathlib.Core.Path.{◌≡◌}
 use Rattle.base64text.proofs.number_range.Given as goal
 
 abbrev pub invariant-loop-i : goal.invariant-loop-i

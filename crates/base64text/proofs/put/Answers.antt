@@ -1,5 +1,4 @@
 use Rattle.base64text.proofs.Turns.{sized}
-use borrow.Author.Rules.{rules}
 use lib.ListN.{length-set}
 use mathlib.Core.Path.{refl}
 use native.Mathlib.Nat.{add-zero}

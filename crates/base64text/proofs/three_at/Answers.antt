@@ -1,5 +1,4 @@
 use Rattle.base64text.specs.Base64.{three}
-use borrow.Author.Rules.{rules}
 use mathlib.Core.Path.{◌∙◌, ap}
 use Rattle.base64text.proofs.three_at.Goals as goal
 

@@ -1,7 +1,6 @@
 use Prim.Native.Nat.{◌-◌}
 use Rattle.base64text.proofs.Turns.{sized, at-most-three, length-short, length_cut, length_whole}
 use Rattle.base64text.specs.Private.{group_at}
-use borrow.Author.Rules.{rules}
 use lib.ListN.{length}
 use native.Mathlib.Omega.{arith}
 use Rattle.base64text.proofs.unchecked_length.Goals as goal

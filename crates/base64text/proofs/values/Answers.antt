@@ -1,5 +1,4 @@
 use Rattle.base64text.proofs.Ranges.{five-ranges}
-use borrow.Author.Rules.{rules}
 use Rattle.base64text.proofs.values.Goals as goal
 
 pub returns : goal.returns

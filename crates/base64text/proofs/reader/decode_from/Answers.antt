@@ -1,6 +1,5 @@
 use Rattle.base64text.specs.Base64.{decoded, decoded_into}
 use Rattle.octets.proofs.TextReaders.{decode-from}
-use borrow.Author.Rules.{rules}
 use Rattle.base64text.proofs.reader.decode_from.Goals as goal
 
 pub returns : goal.returns

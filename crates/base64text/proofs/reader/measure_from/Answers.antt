@@ -1,6 +1,5 @@
 use Rattle.base64text.specs.Base64.{measured}
 use Rattle.octets.proofs.TextReaders.{measure-from}
-use borrow.Author.Rules.{rules}
 use Rattle.base64text.proofs.reader.measure_from.Goals as goal
 
 pub returns : goal.returns

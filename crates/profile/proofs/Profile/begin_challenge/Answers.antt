@@ -1,4 +1,3 @@
-use borrow.Author.Rules.{rules}
 use Rattle.profile.proofs.Profile.begin_challenge.Goals as goal
 
 pub returns-in-Smtp : goal.returns-in-Smtp

@@ -1,6 +1,5 @@
 use Rattle.octets.specs.Lists.{after}
 use Rattle.profile.specs.Texts.{reply, words}
-use borrow.Author.Rules.{rules}
 use Rattle.profile.proofs.texts.pop3.Goals as goal
 
 pub returns-in-Success : goal.returns-in-Success

@@ -1,5 +1,4 @@
 use Rattle.profile.specs.Texts.{reply}
-use borrow.Author.Rules.{rules}
 use Rattle.profile.proofs.texts.smtp.Goals as goal
 
 pub returns-in-Success : goal.returns-in-Success

@@ -1,0 +1,5 @@
+use borrow.Author.Rules.{rules}
+use Rattle.session.proofs.answer.of_reply.Goals as goal
+
+pub returns : goal.returns
+returns c = rw c.number.ensures
