@@ -1,4 +1,0 @@
--- What the proofs of lent share.
-pub mod Passed
-pub mod Lent
-pub mod Lends
