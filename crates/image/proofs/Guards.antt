@@ -20,25 +20,25 @@ use Rattle.image.specs.InPlace.{is_whole, has_slot, has_record, table_at}
 -- ---- an index of a whole image: b is the guard
 
 module _ (l : Image) (i : ℕ) (b : Bool) where
-  pub slot-within : b ≡ has_slot l i → not b ≡ false → (length l ≡ image_size) × (i < most_connections)
+  pub slot-within : b ≡ has_slot l i → b ≡ true → (length l ≡ image_size) × (i < most_connections)
   unfolding has_slot
   slot-within e h =
-      let k = both (is_whole l) (ltb i most_connections) (sym e ∙ not-false b h) in
+      let k = both (is_whole l) (ltb i most_connections) (sym e ∙ h) in
       (eqb-true (length l) image_size k.0, ltb-true i most_connections k.1)
 
-  pub place-within : b ≡ has_record l i → not b ≡ false → (length l ≡ image_size) × (i < most_mechanisms)
+  pub place-within : b ≡ has_record l i → b ≡ true → (length l ≡ image_size) × (i < most_mechanisms)
   unfolding has_record
   place-within e h =
-      let k = both (is_whole l) (ltb i most_mechanisms) (sym e ∙ not-false b h) in
+      let k = both (is_whole l) (ltb i most_mechanisms) (sym e ∙ h) in
       (eqb-true (length l) image_size k.0, ltb-true i most_mechanisms k.1)
 
 -- what a guard t refuses and what it lets through
 module _ {A : Type 0} (b t : Bool) (x y : A) (e : b ≡ t) where
-  pub refused : not b ≡ true → y ≡ cond t x y
-  refused h = ap (λ (u : Bool). cond u x y) (sym (sym e ∙ not-true b h))
+  pub refused : b ≡ false → y ≡ cond t x y
+  refused h = ap (λ (u : Bool). cond u x y) (sym (sym e ∙ h))
 
-  pub admitted : not b ≡ false → x ≡ cond t x y
-  admitted h = ap (λ (u : Bool). cond u x y) (sym (sym e ∙ not-false b h))
+  pub admitted : b ≡ true → x ≡ cond t x y
+  admitted h = ap (λ (u : Bool). cond u x y) (sym (sym e ∙ h))
 
 module _ (l : Image) where
   pub other_length : {A : Type 0} (x y : A) → (length l ≡ image_size → ⊥) → y ≡ cond (is_whole l) x y

@@ -1,0 +1,14 @@
+use Prim.Native.Nat.{◌+◌, ◌-◌, ◌≤◌}
+use Rattle.image.proofs.Pieces.{places-turn, places-end}
+use Rattle.image.specs.Private.{runs_at}
+use borrow.Author.Rules.{rules}
+use mathlib.Core.Bool.{◌&&◌}
+use mathlib.Core.Path.{◌≡◌, sym}
+use native.Mathlib.Nat.{add-zero}
+use Rattle.image.proofs.fits.runs.Given as goal
+
+abbrev pub invariant-loop-i : goal.invariant-loop-i
+invariant-loop-i l = (l.i ≤ 32) × (runs_at l.image 32 l.at ≡ (l.ok && runs_at l.image (32 - l.i) (l.at + l.i)))
+
+abbrev pub decreases-loop-i : goal.decreases-loop-i
+decreases-loop-i l = 32 - l.i

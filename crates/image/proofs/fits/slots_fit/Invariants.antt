@@ -1,0 +1,20 @@
+use Prim.Native.Nat.{◌+◌, ◌-◌, ◌%◌, ◌≤◌}
+use Rattle.image.proofs.Differ.{met_start}
+use Rattle.image.proofs.Walk.{walk_start, walk_turn, walk-skip, walk_end, walk_fail}
+use Rattle.image.specs.Private.{slot_number, slot_ticket, Met, fit_from}
+use Rattle.octets.proofs.Cases.{both}
+use Rattle.server.specs.Limits.{most_connections}
+use Rattle.server.specs.WellFormed.{number_of, ticket_of}
+use borrow.Author.Rules.{rules}
+use borrow.Author.Tests.{eqb-true, not-true, not-false}
+use lib.Dec.{eqb}
+use mathlib.Core.Bool.{true}
+use mathlib.Core.Path.{◌≡◌, refl, sym, ◌∙◌}
+use native.Mathlib.Omega.{arith}
+use Rattle.image.proofs.fits.slots_fit.Given as goal
+
+abbrev pub invariant-loop-i : goal.invariant-loop-i
+invariant-loop-i l = (l.i ≤ most_connections) × (fit_from l.image l.header l.i ≡ true) × Met number_of slot_number l.image l.i l.numbers × Met ticket_of slot_ticket l.image l.i l.tickets
+
+abbrev pub decreases-loop-i : goal.decreases-loop-i
+decreases-loop-i l = l.i

@@ -1,0 +1,15 @@
+use Prim.Native.Nat.{◌-◌, ◌<◌, ◌≤◌}
+use Rattle.codec.specs.Stored.{stored}
+use Rattle.image.proofs.Guards.{clear-start, clear-turn, clear-end}
+use Rattle.octets.proofs.Cases.{below}
+use borrow.Author.Rules.{rules}
+use lib.ListN.{length, drop, replicate}
+use mathlib.Core.Path.{◌≡◌, refl}
+use native.Mathlib.Omega.{arith}
+use Rattle.image.proofs.leaves.clear.Given as goal
+
+abbrev pub invariant-loop-i : goal.invariant-loop-i
+invariant-loop-i l = (l.i ≤ length l.initial.image) × (length l.image ≡ length l.initial.image) × (stored l.image l.i (drop l.i (replicate (length l.initial.image) 0)) ≡ replicate (length l.initial.image) 0)
+
+abbrev pub decreases-loop-i : goal.decreases-loop-i
+decreases-loop-i l = length l.initial.image - l.i

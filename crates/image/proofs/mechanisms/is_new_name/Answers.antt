@@ -1,0 +1,20 @@
+use Prim.Native.Nat.{◌+◌, ◌-◌, ◌*◌, ◌≤◌}
+use Rattle.codec.proofs.InPlace.{all_at_turn, all_at_end}
+use Rattle.codec.specs.InPlace.{every_at}
+use Rattle.image.proofs.Table.{same-name-at}
+use Rattle.image.specs.Private.{is_other_at}
+use Rattle.image.specs.Sizes.{mechanism_size}
+use borrow.Author.Rules.{rules}
+use mathlib.Core.Bool.{◌&&◌}
+use mathlib.Core.Path.{◌≡◌, sym}
+use native.Mathlib.Nat.{add-zero, sub-zero}
+use Rattle.image.proofs.mechanisms.is_new_name.Goals as goal
+
+pub loop-i-init : goal.loop-i-init
+loop-i-init c = (search rules, rw (sub-zero, add-zero))
+
+pub loop-i-preserved : goal.loop-i-preserved
+loop-i-preserved c = (search rules, rw (c.same_name.ensures, ← same-name-at _ _ _) (all_at_turn _ _ _ c.loop-i.ok _ _ _ c.loop-i.invariant.1 c.loop-i-test.true))
+
+pub returns : goal.returns
+returns c = sym (all_at_end _ _ _ c.loop-i.ok _ _ _ c.loop-i.invariant.1 c.loop-i-test.false)

@@ -1,0 +1,15 @@
+use Prim.Native.Nat.{◌+◌, ◌-◌, ◌≤◌}
+use Rattle.codec.specs.InPlace.{every_at}
+use Rattle.image.proofs.Pieces.{places-turn, places-end}
+use Rattle.image.specs.Private.{may_stand_at}
+use borrow.Author.Rules.{rules}
+use mathlib.Core.Bool.{◌&&◌}
+use mathlib.Core.Path.{◌≡◌, sym}
+use native.Mathlib.Nat.{add-zero}
+use Rattle.image.proofs.mechanisms.may_all_stand.Given as goal
+
+abbrev pub invariant-loop-i : goal.invariant-loop-i
+invariant-loop-i l = (l.i ≤ 16) × (every_at (may_stand_at l.image) 1 16 l.at ≡ (l.ok && every_at (may_stand_at l.image) 1 (16 - l.i) (l.at + l.i)))
+
+abbrev pub decreases-loop-i : goal.decreases-loop-i
+decreases-loop-i l = 16 - l.i

@@ -1,0 +1,5 @@
+use borrow.Author.Rules.{rules}
+use Rattle.image.proofs.mechanisms.may_stand.Goals as goal
+
+pub returns : goal.returns
+returns c = rw c.is_mech_char.ensures

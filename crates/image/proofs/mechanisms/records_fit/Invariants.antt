@@ -1,0 +1,15 @@
+use Prim.Native.Nat.{◌+◌, ◌-◌, ◌*◌, ◌≤◌}
+use Rattle.image.proofs.Table.{records_fit, records-turn, records-end}
+use Rattle.image.specs.InPlace.{mechanism_offset}
+use Rattle.image.specs.Sizes.{mechanism_size}
+use borrow.Author.Rules.{rules}
+use mathlib.Core.Bool.{◌&&◌}
+use mathlib.Core.Path.{◌≡◌, sym}
+use native.Mathlib.Nat.{add-zero, sub-zero}
+use Rattle.image.proofs.mechanisms.records_fit.Given as goal
+
+abbrev pub invariant-loop-i : goal.invariant-loop-i
+invariant-loop-i l = (l.i ≤ l.count) × (records_fit l.image l.count (mechanism_offset 0) ≡ (l.ok && records_fit l.image (l.count - l.i) (mechanism_offset 0 + l.i * mechanism_size)))
+
+abbrev pub decreases-loop-i : goal.decreases-loop-i
+decreases-loop-i l = l.count - l.i

@@ -1,0 +1,6 @@
+use Rattle.image.proofs.Offsets.{connection-get}
+use borrow.Author.Rules.{rules}
+use Rattle.image.proofs.records.read_connection.Goals as goal
+
+pub returns : goal.returns
+returns c = rw (connection-get, c.read_number.ensures, c.read_session.ensures)

@@ -1,0 +1,6 @@
+use Rattle.image.proofs.Offsets.{free-put}
+use borrow.Author.Rules.{rules}
+use Rattle.image.proofs.records.write_free.Goals as goal
+
+pub returns : goal.returns
+returns c = rw (free-put, c.write_octets.ensures)

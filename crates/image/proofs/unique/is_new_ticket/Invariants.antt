@@ -1,0 +1,18 @@
+use Prim.Native.Nat.{◌+◌, ◌-◌, ◌≤◌}
+use Rattle.image.proofs.Places.{every-at-start, every-at-pass, every-at_fail}
+use Rattle.image.specs.Private.{slots_at}
+use Rattle.octets.specs.Lists.{every}
+use Rattle.server.specs.Limits.{most_connections}
+use Rattle.server.specs.Slots.{is_waiting, holding}
+use borrow.Author.Rules.{rules}
+use lib.ListN.{drop}
+use mathlib.Core.Bool.{true, not}
+use mathlib.Core.Path.{◌≡◌, sym, ap, ◌∙◌}
+use native.Mathlib.Omega.{arith}
+use Rattle.image.proofs.unique.is_new_ticket.Given as goal
+
+abbrev pub invariant-loop-i : goal.invariant-loop-i
+invariant-loop-i l = (l.from ≤ l.i) × (l.i ≤ most_connections) × (every (λ y. not (holding (is_waiting l.ticket) y)) (drop l.i (slots_at l.image)) ≡ true)
+
+abbrev pub decreases-loop-i : goal.decreases-loop-i
+decreases-loop-i l = l.i

@@ -1,0 +1,8 @@
+use Rattle.image.specs.Private.{spread}
+use borrow.Author.Rules.{rules}
+use mathlib.Core.Path.{refl}
+use Rattle.image.proofs.unique.spread.Goals as goal
+
+pub returns : goal.returns
+unfolding spread
+returns c = refl
