@@ -1,3 +1,2 @@
 // The calls on an image: only definitions (specs/). The functions that a host in C calls promise these.
 #![tactic(auto)]
-

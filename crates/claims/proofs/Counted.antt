@@ -66,7 +66,9 @@ on_call {c} {t} {h} {i} l d m =
 on-calls : {c t : ℕ} {h : List Made} {i : Image} → Ledger c t h i → (cs : List Call) → NoMake cs → CountedFrom c t (history h i cs)
 unfolding history every
 on-calls l [] m = record { tickets = l.ticket.listed; connections = l.connection.listed }
-on-calls l (d ∷ cs) m = let b = both (is_no_make d) (every is_no_make cs) m in on-calls (on_call l d b.0) cs b.1
+on-calls {c = c} {t = t} {h = h} {i = i} l (d ∷ cs) m =
+    let b = both (is_no_make d) (every is_no_make cs) m in
+    on-calls {c = c} {t = t} {h = made (request d) (step i d).result ∷ h} {i = (step i d).image} (on_call l d b.0) cs b.1
 
 on-make : (i : Image) (c t : ℕ) → length i ≡ image_size → c < number_bound → t < number_bound
     → Ledger c t (made (Requests.make c t) (step i (Calls.make c t)).result ∷ []) (step i (Calls.make c t)).image

@@ -82,9 +82,13 @@ known-open n (some x) h k e = k.0
 pub held-open : {h : List Made} {s : Server} → Served h s → (n : ℕ) → is_held (held_at s n) ≡ true → Open n h
 held-open {h} {s} v n e = known-open n (held_at s n) h (known v n) e
 
+-- two numbers that are one
+opens-same : {n m p b : ℕ} {x y : Option Held} → n ≡ m → Turns n (Requests.opens p b) (opened m) x y → is_held y ≡ true
+opens-same {n = n} {m = m} s (Turns.keeps r j) = absurd (true≢false (sym (eq-eqb m n (sym s)) ∙ r))
+opens-same s Turns.opens = refl
+
 opens-held : {n p b : ℕ} {x y : Option Held} → Turns n (Requests.opens p b) (opened n) x y → is_held y ≡ true
-opens-held {n} (Turns.keeps r j) = absurd (true≢false (sym (eq-eqb n n refl) ∙ r))
-opens-held Turns.opens = refl
+opens-held t = opens-same refl t
 
 still-held : {n : ℕ} {q : Request} {a : Result} {x y : Option Held} → Turns n q a x y → ends (made q a) n ≡ false → is_held x ≡ true → is_held y ≡ true
 still-held (Turns.keeps r j) f e = e

@@ -91,9 +91,13 @@ unfolding tickets Above
 issued-below (Issued.asks o) k a = a.0
 issued-below (Issued.still {e = e} {h = h} x i) k a = issued-below i k (before_last (Above k) (λ t l b. b.1) e.result (tickets h) a)
 
-pub issued-once : {n m t : ℕ} {h : List Made} → Rising (tickets h) → Issued n t h → Issued m t h → n ≡ m
+-- two tickets that are one
+issued-same : {n m t u : ℕ} {h : List Made} → Rising (tickets h) → t ≡ u → Issued n t h → Issued m u h → n ≡ m
 unfolding tickets Rising
-issued-once r (Issued.asks o) (Issued.asks p) = refl
-issued-once {t = t} r (Issued.asks o) (Issued.still x j) = let l : t < t = issued-below j t r.1 in absurd (omega arith)
-issued-once {t = t} r (Issued.still x i) (Issued.asks o) = let l : t < t = issued-below i t r.1 in absurd (omega arith)
-issued-once r (Issued.still {e = e} {h = h} x i) (Issued.still y j) = issued-once (before_last Rising (λ k l z. z.2) e.result (tickets h) r) i j
+issued-same r s (Issued.asks o) (Issued.asks p) = refl
+issued-same {t = t} {u = u} r s (Issued.asks o) (Issued.still x j) = let l : u < t = issued-below j t r.1 in absurd (omega arith)
+issued-same {t = t} {u = u} r s (Issued.still x i) (Issued.asks o) = let l : t < u = issued-below i u r.1 in absurd (omega arith)
+issued-same r s (Issued.still {e = e} {h = h} x i) (Issued.still y j) = issued-same (before_last Rising (λ k l z. z.2) e.result (tickets h) r) s i j
+
+pub issued-once : {n m t : ℕ} {h : List Made} → Rising (tickets h) → Issued n t h → Issued m t h → n ≡ m
+issued-once r i j = issued-same r refl i j

@@ -120,7 +120,9 @@ goes {h} {i} s c m = let n = next i s.server s.taken c m in record { server = n.
 listed : {h : List Made} {i : Image} → Stands h i → (cs : List Call) → NoMake cs → Stands (history h i cs) (left i cs)
 unfolding history left every
 listed s [] m = s
-listed s (c ∷ cs) m = let b = both (is_no_make c) (every is_no_make cs) m in listed (goes s c b.0) cs b.1
+listed {h = h} {i = i} s (c ∷ cs) m =
+    let b = both (is_no_make c) (every is_no_make cs) m in
+    listed {h = made (request c) (step i c).result ∷ h} {i = (step i c).image} (goes s c b.0) cs b.1
 
 -- ---- a list of calls of which the first make was refused
 
@@ -152,10 +154,11 @@ first-refused i c t e =
 pub all-refused : {h : List Made} {i : Image} → Unmade h i → (cs : List Call) → NoMake cs → Unmade (history h i cs) (left i cs)
 unfolding history left every
 all-refused u [] m = u
-all-refused {h} {i} u (c ∷ cs) m =
+all-refused {h = h} {i = i} u (c ∷ cs) m =
     let b = both (is_no_make c) (every is_no_make cs) m in
     let r = untaken i u.untaken c b.0 in
-    all-refused (record { refused = rw r.0 u.refused; untaken = ap Images.taken r.1 ∙ u.untaken }) cs b.1
+    all-refused {h = made (request c) (step i c).result ∷ h} {i = (step i c).image}
+    (record { refused = rw r.0 u.refused; untaken = ap Images.taken r.1 ∙ u.untaken }) cs b.1
 
 -- the last call, and those before it
 pub last-refused : (e : Made) (h : List Made) → AllRefused (e ∷ h) → (is_refusal e.result ≡ true) × AllRefused h

@@ -129,7 +129,7 @@ found-held t c s w f =
     }
 
 -- a verdict that is not refused is on a ticket that a connection waits on
-pub waited : {s z : Server} {t k : ℕ} {d : List ℕ} {a : Result} → Moves s (Requests.verdict t k d) a z → well_formed s ≡ true → Waited s t
+pub waited : {s : Server} {t k : ℕ} {d : List ℕ} {a : Result} {z : Server} → Moves s (Requests.verdict t k d) a z → well_formed s ≡ true → Waited s t
 waited {s} (Moves.judges t k d c v g f e) w = found-held t c s w f
 
 -- ---- a verdict

@@ -1,0 +1,27 @@
+use Rattle.calls.specs.Call as Call
+use Rattle.image.proofs.Laws.{not_taken}
+use Rattle.umbrelnic.proofs.Exits.{step-untaken}
+use Rattle.umbrelnic.proofs.Opens.{open-unlisted, open-neither, open-listed}
+use borrow.Author.Rules.{rules}
+use borrow.Author.Tests.{not-true, not-false}
+use mathlib.Core.Path.{refl, sym, ◌∙◌}
+use Rattle.umbrelnic.proofs.umbrelnic_open.Goals as goal
+
+pub returns-then-not-is_taken : goal.returns-then-not-is_taken
+returns-then-not-is_taken c = rw (step-untaken c.args.image.now (Call.opens c.args.profile c.args.protected) refl (not_taken c.args.image.now (sym c.is_taken.ensures ∙ c.if-not-is_taken.true)))
+    (c.not_opened.ensures, refl)
+
+pub enter-requires : goal.enter-requires
+enter-requires c = sym c.is_taken.ensures ∙ c.if-not-is_taken.false
+
+pub returns-in-Unlisted : goal.returns-in-Unlisted
+returns-in-Unlisted c = rw (open-unlisted c.args.image.now (sym c.is_taken.ensures ∙ c.if-not-is_taken.false) c.args.profile c.args.protected (sym c.in-Unlisted.is ∙ c.of-listed.ensures))
+    (c.not_opened-in-Unlisted.ensures, refl)
+
+pub returns-then-protected-le1 : goal.returns-then-protected-le1
+returns-then-protected-le1 c = rw (open-listed c.args.image.now (sym c.is_taken.ensures ∙ c.if-not-is_taken.false) c.args.profile c.args.protected _ (sym c.in-Known.is ∙ c.of-listed.ensures) c.if-protected-le1.true)
+    c.enter.ensures
+
+pub returns-else-protected-le1 : goal.returns-else-protected-le1
+returns-else-protected-le1 c = rw (open-neither c.args.image.now (sym c.is_taken.ensures ∙ c.if-not-is_taken.false) c.args.profile c.args.protected _ (sym c.in-Known.is ∙ c.of-listed.ensures) c.if-protected-le1.false)
+    (c.not_opened-else-protected-le1.ensures, refl)
