@@ -1,11 +1,8 @@
 -- The number of an answer: the length or the end, 2^64-1 of a malformed text, 2^64-2 of a buffer that is too short.
 use Rattle.std.specs.Prelude.{ℕ}
 use Rattle.octets.specs.declared.Measured.{Measured}
-use Rattle.octets.specs.declared.Measured
 use Rattle.octets.specs.declared.Decoded.{Decoded}
-use Rattle.octets.specs.declared.Decoded
 use Rattle.octets.specs.declared.Encoded.{Encoded}
-use Rattle.octets.specs.declared.Encoded
 
 abbrev pub malformed : ℕ
 malformed = 18446744073709551615

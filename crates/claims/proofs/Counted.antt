@@ -27,7 +27,6 @@ use Rattle.calls.specs.Step.{outcome, step}
 use Rattle.claims.specs.History.{history, is_no_make, NoMake}
 use Rattle.claims.specs.Numbers.{tickets, connections, counted, CountedFrom, NumbersNext}
 use Rattle.claims.specs.Told.{made, Made}
-use Rattle.claims.proofs.Counts as Counts
 use Rattle.claims.proofs.Counts.{Counts, ticket-counts, number_counts}
 use Rattle.claims.proofs.Served.{Called, refused-by, moved, next, AllRefused, first-refused, all-refused}
 use Rattle.claims.proofs.Rises.{unmade-issues}

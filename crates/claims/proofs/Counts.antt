@@ -21,7 +21,6 @@ use Rattle.server.specs.Server.{Server}
 use Rattle.server.specs.WellFormed.{well_formed}
 use Rattle.server.proofs.Issues.{Issues, line-issues, verdict-issues, next-number}
 use Rattle.server.proofs.Kept.{parts}
-use Rattle.server.proofs.Moves as Moves
 use Rattle.server.proofs.Within.{header-parts}
 use Rattle.server.proofs.Moves.{Moves}
 use Rattle.claims.proofs.Steps.{is_make}

@@ -33,7 +33,6 @@ use Rattle.server.specs.Server.{Server}
 use Rattle.server.specs.Slots.{is_waiting}
 use Rattle.server.specs.Verdict.{verdict_gives}
 use Rattle.server.specs.declared.Connection.{Connection}
-use Rattle.server.proofs.Moves as Moves
 use Rattle.server.proofs.Moves.{Moves}
 use Rattle.image.specs.Image.{Image, taken}
 use Rattle.calls.specs.Call as Calls

@@ -33,7 +33,6 @@ use Rattle.server.specs.Slots.{is_numbered, holding, found, replaced}
 use Rattle.server.specs.WellFormed.{number_of, well_formed}
 use Rattle.server.specs.declared.Connection.{Connection}
 use Rattle.server.proofs.Kept.{parts, numbers-below}
-use Rattle.server.proofs.Moves as Moves
 use Rattle.server.proofs.Moves.{Moves}
 use Rattle.server.proofs.Slots.{found_waits, found_number, find-same, find-close, find-opened, find-ticket, none-next}
 use Rattle.claims.specs.Told.{answer_tells, tells, is_waiting_on, found_stands}

@@ -40,7 +40,6 @@ use Rattle.server.specs.WellFormed.{well_formed}
 use Rattle.server.specs.declared.Connection.{Connection}
 use Rattle.server.proofs.Issues.{verdict-heard-one}
 use Rattle.server.proofs.Kept.{parts, found-open}
-use Rattle.server.proofs.Moves as Moves
 use Rattle.server.proofs.Moves.{Moves}
 use Rattle.image.specs.Image.{Image}
 use Rattle.calls.specs.Buffers.{heard_in, name_in, borne_in}

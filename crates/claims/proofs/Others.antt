@@ -16,7 +16,6 @@ use Rattle.server.specs.Server.{Server}
 use Rattle.server.specs.Slots.{is_numbered, holding, found, replaced}
 use Rattle.server.specs.WellFormed.{number_of, well_formed}
 use Rattle.server.proofs.Kept.{parts, numbers-below}
-use Rattle.server.proofs.Moves as Moves
 use Rattle.server.proofs.Moves.{Moves}
 use Rattle.server.proofs.Slots.{found_waits, found_number, find-close, find-opened, find-ticket, none-next}
 use Rattle.image.specs.Image.{Image, image_of, taken}

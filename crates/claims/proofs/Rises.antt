@@ -1,5 +1,5 @@
 -- Along a list of calls tickets and connection numbers rise, so a ticket is issued once. Assumes nothing.
-use mathlib.Core.Path.{◌≡◌, refl, ◌∙◌, ap}
+use mathlib.Core.Path.{◌≡◌, refl, ◌∙◌}
 use mathlib.Core.Bool.{true, false≢true}
 use mathlib.Core.List.{List, [], ◌∷◌}
 use Prim.Native.Nat.{ℕ, ◌+◌, ◌<◌}
@@ -11,7 +11,6 @@ use Rattle.server.specs.Server.{Server}
 use Rattle.claims.specs.Told.{Made, is_refusal}
 use Rattle.claims.specs.Names.{Issued}
 use Rattle.claims.specs.Numbers.{issues_ticket, issues_number, tickets, connections, Above, Rising, NumbersRise}
-use Rattle.claims.proofs.Counts as Counts
 use Rattle.claims.proofs.Counts.{Counts, ticket-counts, number_counts}
 use Rattle.claims.proofs.Served.{refused-by, moved, Served, begins, then, AllRefused, last-refused, all_listed, by-list}
 

@@ -15,7 +15,6 @@ use Rattle.server.specs.Requests.{Request, Sized, on}
 use Rattle.server.specs.Server.{Server}
 use Rattle.server.specs.WellFormed.{well_formed}
 use Rattle.server.proofs.Kept.{within, fresh-within}
-use Rattle.server.proofs.Moves as Moves
 use Rattle.server.proofs.Moves.{Moves, Unrefused, moves}
 use Rattle.image.specs.Image as Images
 use Rattle.image.specs.Image.{Image, image_of, taken}

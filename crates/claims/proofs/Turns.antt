@@ -42,7 +42,6 @@ use Rattle.server.specs.WellFormed.{number_of, phase_ticket, has, well_formed}
 use Rattle.server.specs.declared.Connection.{Connection}
 use Rattle.server.proofs.Issues.{query_ticket, line-ticket, verdict-ticket, verdict-heard-one}
 use Rattle.server.proofs.Kept.{parts, numbers-below}
-use Rattle.server.proofs.Moves as Moves
 use Rattle.server.proofs.Moves.{Moves}
 use Rattle.server.proofs.Slots.{found_waits, found_number, found-own, found-waits, waits-has, find-close, find-opened, find-ticket, none-next}
 use Rattle.claims.specs.Told.{made}

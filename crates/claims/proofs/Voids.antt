@@ -16,7 +16,6 @@ use Rattle.claims.specs.Names.{Issued}
 use Rattle.claims.specs.Numbers.{ticket_in, issues_ticket, tickets, Rising}
 use Rattle.claims.proofs.Turns as Turns
 use Rattle.claims.proofs.Turns.{Held, held_at, held_ticket, Turns, turns, waited, Queries, queried}
-use Rattle.claims.proofs.Counts as Counts
 use Rattle.claims.proofs.Counts.{Counts, ticket-counts}
 use Rattle.claims.proofs.Rises.{tickets-rise, issued-below, issued-once}
 use Rattle.claims.proofs.Grants.{waits-issued, has-itself}

@@ -1,10 +1,10 @@
 -- What a guard lets through, what is read where there is no image, and a buffer cleared. Assumes nothing.
 use mathlib.Core.Path.{◌≡◌, refl, sym, ap, ◌∙◌}
-use mathlib.Core.Bool.{Bool, true, false, cond, not}
+use mathlib.Core.Bool.{Bool, true, false, cond}
 use mathlib.Core.List.{List, []}
 use Prim.Native.Nat.{ℕ, ◌+◌, ◌<◌, ◌≤◌}
 use lib.Dec.{ltb}
-use borrow.Author.Tests.{eqb-true, ltb-true, not-true, not-false, eq-eqb, ne_eqb}
+use borrow.Author.Tests.{eqb-true, ltb-true, eq-eqb, ne_eqb}
 use lib.ListN.{length, set, drop, replicate, length-replicate, get_or-replicate}
 use Rattle.octets.proofs.Cases.{both}
 use Rattle.codec.specs.Codec.{get_number, get_array}

@@ -17,11 +17,9 @@ use Rattle.codec.specs.InPlace.{stands_at, canonical_at, every_at}
 use Rattle.codec.proofs.Arrays.{get_array-length, take-array, every-array}
 use Rattle.codec.proofs.Listed.{canonical-listed-every}
 use Rattle.lines.specs.Mechanism.{mech_char, padded}
-use Rattle.session.specs.declared.view.Offer.{Offer}
 use Rattle.server.specs.Limits.{most_mechanisms}
 use Rattle.server.specs.Mechanisms.{listed}
 use Rattle.server.specs.WellFormed.{apart, same_name, mechanism_within, mechanisms_within}
-use Rattle.server.specs.declared.Mechanism.{Mechanism}
 use Rattle.image.specs.Sizes.{mechanism_size, server_mechanisms}
 use Rattle.image.specs.Layout.{mechanism}
 use Rattle.image.specs.InPlace.{mechanism_offset, table_at}

@@ -40,7 +40,6 @@ use Rattle.server.proofs.Within.{server-parts, header-parts, mechanisms-parts, s
 use Rattle.server.proofs.Slots as Slots
 use Rattle.server.proofs.Slots.{first, found_first, free-first, length-replaced, every_first, every-replaced, every-imp, every-replicate, Rekeyed, differ-replaced, differ-free, found_number}
 use Rattle.server.proofs.Issues.{query_ticket, Issues, line-ticket, verdict-ticket, line-issues, verdict-issues, header-issued, next-number}
-use Rattle.server.proofs.Moves as Moves
 use Rattle.server.proofs.Moves.{Moves}
 
 -- ---- the parts of the test

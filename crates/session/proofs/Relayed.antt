@@ -6,7 +6,7 @@ use Prim.Native.Nat.{ℕ}
 use Rattle.xtext.specs.Xtext as Xtext
 use Rattle.profile.specs.declared.Profile.{Profile}
 use Rattle.profile.specs.declared.numbers.Identity.{Identity}
-use Rattle.mail.specs.Mail.{mail, address_text}
+use Rattle.mail.specs.Mail.{address_text}
 use Rattle.mail.specs.Says.{line_says, points_to}
 use Rattle.mail.specs.declared.Mail.{Mail}
 use Rattle.mail.specs.declared.Mail.TheVariants as Mails

@@ -4,7 +4,6 @@ use Rattle.base64text.specs.Base64
 use Rattle.profile.specs.Numbers.{refusal_number, kind_number, identity_number}
 use Rattle.profile.specs.Texts.{crlf, reply, challenge_prefix}
 use Rattle.profile.specs.declared.Profile.{Profile}
-use Rattle.profile.specs.declared.Reply.{Reply}
 use Rattle.profile.specs.declared.numbers.Identity.{Identity}
 use Rattle.profile.specs.declared.numbers.Kind.TheVariants as Kinds
 use Rattle.profile.specs.declared.numbers.Refusal.{Refusal}

@@ -8,7 +8,6 @@ use native.Mathlib.Omega.{arith}
 use borrow.Author.Tests.{eqb-true, eq-eqb}
 use lib.Dec.{eqb}
 use lib.ListN.{length}
-use Rattle.octets.specs.Answers.{written}
 use Rattle.profile.specs.declared.numbers.Refusal.{Refusal}
 use Rattle.profile.specs.declared.numbers.Refusal.TheVariants as Refusals
 use Rattle.server.specs.Close.{close_found, on_close}
@@ -29,7 +28,6 @@ use Rattle.image.specs.Image.{Image, image_of, taken}
 use Rattle.image.specs.InPlace.{is_taken, read_server, connection_read, slot_found, slot_written, fresh_written}
 use Rattle.image.specs.Sizes.{image_size}
 use Rattle.image.proofs.Laws.{taken_own, taken-within, not_taken, own-size, found-replaced, connection-found, connection-passes, connection-absent}
-use Rattle.calls.specs.Call as Call
 use Rattle.calls.specs.Call.{Call, request, is_short}
 use Rattle.calls.specs.Step.{Out, lent, out_of, outcome, step}
 use Rattle.umbrelnic.specs.declared.finding.Place.TheVariants as Places

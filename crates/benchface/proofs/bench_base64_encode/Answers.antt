@@ -1,5 +1,4 @@
 use Rattle.benchface.specs.Numbers.{encoded_number}
-use borrow.Author.Rules.{rules}
 use mathlib.Core.Path.{◌∙◌, ap}
 use Rattle.benchface.proofs.bench_base64_encode.Goals as goal
 

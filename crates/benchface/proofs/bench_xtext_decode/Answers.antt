@@ -1,5 +1,4 @@
 use Rattle.benchface.specs.Numbers.{decoded_number}
-use borrow.Author.Rules.{rules}
 use mathlib.Core.Path.{◌∙◌, ap}
 use Rattle.benchface.proofs.bench_xtext_decode.Goals as goal
 

@@ -1,12 +1,10 @@
 use Prim.Native.Nat.{◌-◌, ◌≤◌}
-use Rattle.image.proofs.Places.{found-other, found-start, found_here, found-later, found_none}
 use Rattle.image.specs.InPlace.{index_from, slot_found}
 use Rattle.image.specs.Private.{slots_at}
 use Rattle.server.specs.Limits.{most_connections}
 use Rattle.server.specs.Slots.{is_free}
-use borrow.Author.Rules.{rules}
 use lib.ListN.{drop}
-use mathlib.Core.Path.{◌≡◌, sym, ◌∙◌}
+use mathlib.Core.Path.{◌≡◌}
 use Rattle.image.proofs.find_free.Given as goal
 
 abbrev pub invariant-loop-i : goal.invariant-loop-i

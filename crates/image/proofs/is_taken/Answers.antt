@@ -1,5 +1,4 @@
 use Rattle.image.proofs.Split.{taken-other, taken-split}
-use borrow.Author.Rules.{rules}
 use mathlib.Core.Path.{sym}
 use Rattle.image.proofs.is_taken.Goals as goal
 

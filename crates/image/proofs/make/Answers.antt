@@ -1,7 +1,6 @@
 use Rattle.image.proofs.Guards.{other_length, own-length}
 use Rattle.image.proofs.Stores.{fresh-made}
 use Rattle.image.specs.InPlace.{fresh_written}
-use borrow.Author.Rules.{rules}
 use mathlib.Core.Path.{◌∙◌}
 use Rattle.image.proofs.make.Goals as goal
 

@@ -1,6 +1,5 @@
 use Rattle.image.proofs.Guards.{slot-within, refused, admitted, no-connection}
 use Rattle.image.specs.InPlace.{connection_read}
-use borrow.Author.Rules.{rules}
 use mathlib.Core.Path.{◌∙◌}
 use native.Mathlib.Omega.{arith}
 use Rattle.image.proofs.read_connection.Goals as goal

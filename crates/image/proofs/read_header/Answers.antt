@@ -1,6 +1,5 @@
 use Rattle.image.proofs.Guards.{other_length, own-length, no_header}
 use Rattle.image.specs.InPlace.{header_read}
-use borrow.Author.Rules.{rules}
 use mathlib.Core.Path.{◌∙◌}
 use Rattle.image.proofs.read_header.Goals as goal
 

@@ -1,6 +1,5 @@
 use Rattle.image.proofs.Guards.{other_length, own-length, no_table}
 use Rattle.image.specs.InPlace.{mechanisms_read}
-use borrow.Author.Rules.{rules}
 use mathlib.Core.Path.{◌∙◌}
 use Rattle.image.proofs.read_mechanisms.Goals as goal
 

@@ -1,6 +1,5 @@
 use Rattle.image.proofs.Guards.{slot-within, refused, admitted}
 use Rattle.image.specs.InPlace.{slot_written}
-use borrow.Author.Rules.{rules}
 use mathlib.Core.Path.{◌∙◌}
 use native.Mathlib.Omega.{arith}
 use Rattle.image.proofs.write_connection.Goals as goal

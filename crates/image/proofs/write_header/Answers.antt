@@ -1,6 +1,5 @@
 use Rattle.image.proofs.Guards.{other_length, own-length}
 use Rattle.image.specs.InPlace.{header_written}
-use borrow.Author.Rules.{rules}
 use mathlib.Core.Path.{◌∙◌}
 use Rattle.image.proofs.write_header.Goals as goal
 

@@ -3,7 +3,6 @@ use Rattle.codec.specs.Stored.{stored}
 use Rattle.image.proofs.Guards.{place-within, refused, admitted}
 use Rattle.image.specs.InPlace.{mechanism_offset, mechanism_written}
 use Rattle.image.specs.Layout.{mechanism}
-use borrow.Author.Rules.{rules}
 use mathlib.Core.List.{List}
 use mathlib.Core.Path.{ap, ◌∙◌}
 use native.Mathlib.Omega.{arith}

@@ -1,5 +1,4 @@
 use Rattle.lineface.specs.Readings.{command_reading, command_by}
-use borrow.Author.Rules.{rules}
 use mathlib.Core.Path.{sym, ◌∙◌, ap}
 use Rattle.lineface.proofs.bench_command.Goals as goal
 

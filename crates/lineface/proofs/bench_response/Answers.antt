@@ -1,5 +1,4 @@
 use Rattle.lineface.specs.Readings.{response_reading, response_by}
-use borrow.Author.Rules.{rules}
 use mathlib.Core.Path.{sym, ◌∙◌, ap}
 use Rattle.lineface.proofs.bench_response.Goals as goal
 

@@ -1,4 +1,3 @@
-use borrow.Author.Rules.{rules}
 use Rattle.lineface.proofs.of_auth.Goals as goal
 
 pub returns-in-Malformed : goal.returns-in-Malformed

@@ -1,4 +1,3 @@
-use borrow.Author.Rules.{rules}
 use Rattle.lineface.proofs.of_command.Goals as goal
 
 pub returns-in-NotUnderstood : goal.returns-in-NotUnderstood

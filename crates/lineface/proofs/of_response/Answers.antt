@@ -1,4 +1,3 @@
-use borrow.Author.Rules.{rules}
 use Rattle.lineface.proofs.of_response.Goals as goal
 
 pub returns-in-TooLong : goal.returns-in-TooLong

@@ -2,10 +2,6 @@ use Rattle.calls.specs.Call as Call
 use Rattle.image.proofs.Laws.{not_taken}
 use Rattle.umbrelnic.proofs.Adds.{add-unlisted, add-listed}
 use Rattle.umbrelnic.proofs.Exits.{step-untaken}
-use borrow.Author.Rules.{rules}
-use borrow.Author.Tests.{not-true, not-false}
-use lib.Dec.{leb}
-use mathlib.Core.Bool.{◌&&◌}
 use mathlib.Core.Path.{refl, sym, ◌∙◌}
 use Rattle.umbrelnic.proofs.umbrelnic_add.Goals as goal
 

@@ -1,5 +1,4 @@
 use Rattle.umbrelnic.proofs.Exits.{close-refused, close-done}
-use borrow.Author.Rules.{rules}
 use mathlib.Core.Path.{refl, sym, ◌∙◌}
 use Rattle.umbrelnic.proofs.umbrelnic_close.Goals as goal
 

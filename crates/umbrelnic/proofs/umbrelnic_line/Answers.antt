@@ -4,7 +4,6 @@ use Rattle.profile.specs.declared.numbers.Refusal.TheVariants.{NoConnection}
 use Rattle.server.specs.Slots.{is_numbered, holding}
 use Rattle.umbrelnic.proofs.Exits.{step-short, placed_at}
 use Rattle.umbrelnic.proofs.Lines.{line_refused}
-use borrow.Author.Rules.{rules}
 use mathlib.Core.Path.{refl, sym, ◌∙◌}
 use Rattle.umbrelnic.proofs.umbrelnic_line.Goals as goal
 

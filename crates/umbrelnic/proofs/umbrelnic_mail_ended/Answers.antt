@@ -1,5 +1,4 @@
 use Rattle.umbrelnic.proofs.Exits.{mail-refused, mail-done}
-use borrow.Author.Rules.{rules}
 use mathlib.Core.Path.{refl, sym, ◌∙◌}
 use Rattle.umbrelnic.proofs.umbrelnic_mail_ended.Goals as goal
 

@@ -1,5 +1,4 @@
 use Rattle.umbrelnic.proofs.Exits.{make-refused, make-done}
-use borrow.Author.Rules.{rules}
 use mathlib.Core.Path.{refl}
 use Rattle.umbrelnic.proofs.umbrelnic_make.Goals as goal
 

@@ -2,8 +2,6 @@ use Rattle.calls.specs.Call as Call
 use Rattle.image.proofs.Laws.{not_taken}
 use Rattle.umbrelnic.proofs.Exits.{step-untaken}
 use Rattle.umbrelnic.proofs.Opens.{open-unlisted, open-neither, open-listed}
-use borrow.Author.Rules.{rules}
-use borrow.Author.Tests.{not-true, not-false}
 use mathlib.Core.Path.{refl, sym, ◌∙◌}
 use Rattle.umbrelnic.proofs.umbrelnic_open.Goals as goal
 

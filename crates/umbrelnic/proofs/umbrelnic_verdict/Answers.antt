@@ -7,7 +7,6 @@ use Rattle.session.specs.Limits.{reply_buffer, answer_buffer}
 use Rattle.umbrelnic.proofs.Exits.{step-short, placed_at}
 use Rattle.umbrelnic.proofs.Lines.{room}
 use Rattle.umbrelnic.proofs.Verdicts.{nothing-handed, verdict-on, verdict-refused}
-use borrow.Author.Rules.{rules}
 use lib.ListN.{length}
 use mathlib.Core.Path.{refl, sym, ◌∙◌}
 use Rattle.umbrelnic.proofs.umbrelnic_verdict.Goals as goal

@@ -2,7 +2,6 @@ use Rattle.calls.specs.Call as Call
 use Rattle.octets.proofs.Answers.{nothing_written}
 use Rattle.session.specs.Limits.{longest_name}
 use Rattle.umbrelnic.proofs.Exits.{step-short, who-refused, who-done, session-within}
-use borrow.Author.Rules.{rules}
 use borrow.Author.Tests.{le-leb, lt-leb}
 use lib.ListN.{length}
 use mathlib.Core.Bool.{not}

@@ -1,7 +1,6 @@
 use Prim.Native.Nat.{◌-◌, ◌*◌}
 use Rattle.image.proofs.Pieces.{zeros-none}
 use Rattle.image.specs.Sizes.{slot_size}
-use borrow.Author.Rules.{rules}
 use borrow.Author.Tests.{eq-eqb, ne_eqb}
 use Rattle.image.proofs.fits.are_free.Goals as goal
 

@@ -1,8 +1,6 @@
 use Rattle.image.proofs.Fields.{connection_unsealed, connection-late, connection_unflagged, connection_phased}
-use borrow.Author.Rules.{rules}
 use borrow.Author.Tests.{lt-ltb, le-ltb, not-true, not-false}
-use mathlib.Core.Bool.{not}
-use mathlib.Core.Path.{sym, ap, ◌∙◌}
+use mathlib.Core.Path.{sym, ◌∙◌}
 use native.Mathlib.Omega.{arith}
 use Rattle.image.proofs.fits.connection_fits.Goals as goal
 

@@ -1,5 +1,4 @@
 use Rattle.image.proofs.Fields.{header-fits}
-use borrow.Author.Rules.{rules}
 use native.Mathlib.Omega.{arith}
 use Rattle.image.proofs.fits.header_fits.Goals as goal
 

@@ -1,8 +1,7 @@
 use Prim.Native.Nat.{◌+◌}
 use Rattle.image.proofs.Pieces.{pieces-first, pieces-last}
 use Rattle.session.specs.Limits.{longest_name}
-use borrow.Author.Rules.{rules}
-use borrow.Author.Tests.{le-leb, lt-leb, not-true, not-false}
+use borrow.Author.Tests.{le-leb, lt-leb}
 use mathlib.Core.Path.{sym, ◌∙◌}
 use native.Mathlib.Omega.{arith}
 use Rattle.image.proofs.fits.is_awaiting.Goals as goal

@@ -1,7 +1,5 @@
 use Rattle.image.proofs.Pieces.{pieces-first, pieces-last}
 use Rattle.image.specs.Sizes.{slot_size}
-use borrow.Author.Rules.{rules}
-use borrow.Author.Tests.{not-true, not-false}
 use mathlib.Core.Path.{sym, ◌∙◌}
 use native.Mathlib.Omega.{arith}
 use Rattle.image.proofs.fits.is_free.Goals as goal

@@ -1,8 +1,6 @@
 use Prim.Native.Nat.{◌+◌}
 use Rattle.image.proofs.Pieces.{pieces-first, pieces-last}
 use Rattle.session.specs.Limits.{longest_name}
-use borrow.Author.Rules.{rules}
-use borrow.Author.Tests.{not-true, not-false}
 use mathlib.Core.Path.{sym, ◌∙◌}
 use native.Mathlib.Omega.{arith}
 use Rattle.image.proofs.fits.is_idle.Goals as goal

@@ -1,6 +1,4 @@
 use Rattle.image.proofs.Fields.{name-signed, name-none}
-use borrow.Author.Rules.{rules}
-use borrow.Author.Tests.{not-true, not-false}
 use mathlib.Core.Path.{sym, ◌∙◌}
 use Rattle.image.proofs.fits.is_name.Goals as goal
 

@@ -1,5 +1,4 @@
 use Rattle.image.proofs.Fields.{phased_waiting, phased_signed_in, phased_awaiting, phased_idle, phased_other}
-use borrow.Author.Rules.{rules}
 use Rattle.image.proofs.fits.phased_fits.Goals as goal
 
 pub returns-then-image-at-eq-WAITING : goal.returns-then-image-at-eq-WAITING

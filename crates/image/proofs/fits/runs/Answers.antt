@@ -1,9 +1,6 @@
-use Prim.Native.Nat.{◌+◌, ◌-◌, ◌≤◌}
 use Rattle.image.proofs.Pieces.{places-turn, places-end}
-use Rattle.image.specs.Private.{runs_at}
 use borrow.Author.Rules.{rules}
-use mathlib.Core.Bool.{◌&&◌}
-use mathlib.Core.Path.{◌≡◌, sym}
+use mathlib.Core.Path.{sym}
 use native.Mathlib.Nat.{add-zero}
 use Rattle.image.proofs.fits.runs.Goals as goal
 

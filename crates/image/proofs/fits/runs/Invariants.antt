@@ -1,10 +1,7 @@
 use Prim.Native.Nat.{◌+◌, ◌-◌, ◌≤◌}
-use Rattle.image.proofs.Pieces.{places-turn, places-end}
 use Rattle.image.specs.Private.{runs_at}
-use borrow.Author.Rules.{rules}
 use mathlib.Core.Bool.{◌&&◌}
-use mathlib.Core.Path.{◌≡◌, sym}
-use native.Mathlib.Nat.{add-zero}
+use mathlib.Core.Path.{◌≡◌}
 use Rattle.image.proofs.fits.runs.Given as goal
 
 abbrev pub invariant-loop-i : goal.invariant-loop-i

@@ -1,17 +1,16 @@
 use Rattle.image.proofs.Keys.{number-skips, ticket-skips}
 use Rattle.image.proofs.Walk.{free-joins, open-joins, open_misfits, open-repeats}
 use borrow.Author.Rules.{rules}
-use borrow.Author.Tests.{not-true, not-false}
 use mathlib.Core.Bool.{true≢false}
 use mathlib.Core.Path.{sym, ◌∙◌}
 use Rattle.image.proofs.fits.slot_joins.Goals as goal
 
 pub returns-then-not-read_flag : goal.returns-then-not-read_flag
 returns-then-not-read_flag c = let f = sym c.read_flag.ensures ∙ c.if-not-read_flag.true in (
-      rw c.is_free.ensures (free-joins _ _ c.args.i c.requires.0 f _ c.requires.2 _ c.requires.3),
-      λ e. number-skips _ c.args.i c.requires.0 _ f c.requires.2,
-      λ e. ticket-skips _ c.args.i c.requires.0 _ f c.requires.3,
-    )
+  rw c.is_free.ensures (free-joins _ _ c.args.i c.requires.0 f _ c.requires.2 _ c.requires.3),
+  λ e. number-skips _ c.args.i c.requires.0 _ f c.requires.2,
+  λ e. ticket-skips _ c.args.i c.requires.0 _ f c.requires.3,
+)
 
 pub returns-then-not-connection_fits : goal.returns-then-not-connection_fits
 returns-then-not-connection_fits c = let f = sym c.read_flag.ensures ∙ c.if-not-read_flag.false in

@@ -1,16 +1,9 @@
-use Prim.Native.Nat.{◌+◌, ◌-◌, ◌%◌, ◌≤◌}
-use Rattle.image.proofs.Differ.{met_start}
-use Rattle.image.proofs.Walk.{walk_start, walk_turn, walk-skip, walk_end, walk_fail}
+use Prim.Native.Nat.{◌≤◌}
 use Rattle.image.specs.Private.{slot_number, slot_ticket, Met, fit_from}
-use Rattle.octets.proofs.Cases.{both}
 use Rattle.server.specs.Limits.{most_connections}
 use Rattle.server.specs.WellFormed.{number_of, ticket_of}
-use borrow.Author.Rules.{rules}
-use borrow.Author.Tests.{eqb-true, not-true, not-false}
-use lib.Dec.{eqb}
 use mathlib.Core.Bool.{true}
-use mathlib.Core.Path.{◌≡◌, refl, sym, ◌∙◌}
-use native.Mathlib.Omega.{arith}
+use mathlib.Core.Path.{◌≡◌}
 use Rattle.image.proofs.fits.slots_fit.Given as goal
 
 abbrev pub invariant-loop-i : goal.invariant-loop-i

@@ -1,11 +1,8 @@
 use Prim.Native.Nat.{◌+◌, ◌-◌, ◌≤◌}
-use Rattle.codec.proofs.InPlace.{zeros-turn, zeros-end}
 use Rattle.codec.specs.InPlace.{stands_at}
-use borrow.Author.Rules.{rules}
 use lib.ListN.{replicate}
 use mathlib.Core.Bool.{◌&&◌}
-use mathlib.Core.Path.{◌≡◌, sym}
-use native.Mathlib.Nat.{add-zero, sub-zero}
+use mathlib.Core.Path.{◌≡◌}
 use Rattle.image.proofs.leaves.are_zeros.Given as goal
 
 abbrev pub invariant-loop-i : goal.invariant-loop-i

@@ -1,10 +1,8 @@
-use Prim.Native.Nat.{◌-◌, ◌<◌, ◌≤◌}
-use Rattle.codec.specs.Stored.{stored}
+use Prim.Native.Nat.{◌<◌, ◌≤◌}
 use Rattle.image.proofs.Guards.{clear-start, clear-turn, clear-end}
-use Rattle.octets.proofs.Cases.{below}
 use borrow.Author.Rules.{rules}
-use lib.ListN.{length, drop, replicate}
-use mathlib.Core.Path.{◌≡◌, refl}
+use lib.ListN.{length}
+use mathlib.Core.Path.{refl}
 use native.Mathlib.Omega.{arith}
 use Rattle.image.proofs.leaves.clear.Goals as goal
 

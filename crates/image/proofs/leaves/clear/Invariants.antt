@@ -1,11 +1,7 @@
-use Prim.Native.Nat.{◌-◌, ◌<◌, ◌≤◌}
+use Prim.Native.Nat.{◌-◌, ◌≤◌}
 use Rattle.codec.specs.Stored.{stored}
-use Rattle.image.proofs.Guards.{clear-start, clear-turn, clear-end}
-use Rattle.octets.proofs.Cases.{below}
-use borrow.Author.Rules.{rules}
 use lib.ListN.{length, drop, replicate}
-use mathlib.Core.Path.{◌≡◌, refl}
-use native.Mathlib.Omega.{arith}
+use mathlib.Core.Path.{◌≡◌}
 use Rattle.image.proofs.leaves.clear.Given as goal
 
 abbrev pub invariant-loop-i : goal.invariant-loop-i

@@ -1,5 +1,4 @@
 use Rattle.codec.specs.Codec.{get_number}
-use borrow.Author.Rules.{rules}
 use native.Mathlib.Nat.{add_assoc}
 use native.Mathlib.Omega.{arith}
 use Rattle.image.proofs.leaves.read_number.Goals as goal

@@ -1,13 +1,10 @@
-use Prim.Native.Nat.{◌-◌, ◌<◌, ◌≤◌}
+use Prim.Native.Nat.{◌<◌, ◌≤◌}
 use Rattle.codec.proofs.Arrays.{get_array-length, get_array-at}
 use Rattle.codec.proofs.Stored.{stored-whole, fill-turn, fill_end}
-use Rattle.codec.specs.Codec.{octet, get_array}
-use Rattle.codec.specs.Stored.{stored}
-use Rattle.octets.proofs.Cases.{below}
-use Rattle.octets.proofs.Table.{at}
+use Rattle.codec.specs.Codec.{octet}
 use borrow.Author.Rules.{rules}
-use lib.ListN.{length, drop}
-use mathlib.Core.Path.{◌≡◌, sym}
+use lib.ListN.{length}
+use mathlib.Core.Path.{sym}
 use native.Mathlib.Nat.{mul-one}
 use native.Mathlib.Omega.{arith}
 use Rattle.image.proofs.leaves.read_octets.Goals as goal
@@ -17,10 +14,10 @@ loop-i-init c = (search rules, search rules, stored-whole _ _ (sym (get_array-le
 
 pub loop-i-preserved : goal.loop-i-preserved
 loop-i-preserved c = let below : c.loop-i.i < length c.args.out.now = omega arith in (
-      search rules,
-      search rules,
-      fill-turn _ _ _ _ (rw get_array-length below) (rw (get_array-at octet, mul-one)) c.loop-i.invariant.2,
-    )
+  search rules,
+  search rules,
+  fill-turn _ _ _ _ (rw get_array-length below) (rw (get_array-at octet, mul-one)) c.loop-i.invariant.2,
+)
 
 pub returns : goal.returns
 returns c = let past : length c.args.out.now ≤ c.loop-i.i = omega arith in

@@ -1,15 +1,8 @@
-use Prim.Native.Nat.{◌-◌, ◌<◌, ◌≤◌}
-use Rattle.codec.proofs.Arrays.{get_array-length, get_array-at}
-use Rattle.codec.proofs.Stored.{stored-whole, fill-turn, fill_end}
+use Prim.Native.Nat.{◌-◌, ◌≤◌}
 use Rattle.codec.specs.Codec.{octet, get_array}
 use Rattle.codec.specs.Stored.{stored}
-use Rattle.octets.proofs.Cases.{below}
-use Rattle.octets.proofs.Table.{at}
-use borrow.Author.Rules.{rules}
 use lib.ListN.{length, drop}
-use mathlib.Core.Path.{◌≡◌, sym}
-use native.Mathlib.Nat.{mul-one}
-use native.Mathlib.Omega.{arith}
+use mathlib.Core.Path.{◌≡◌}
 use Rattle.image.proofs.leaves.read_octets.Given as goal
 
 abbrev pub invariant-loop-i : goal.invariant-loop-i

@@ -1,4 +1,3 @@
-use borrow.Author.Rules.{rules}
 use Rattle.image.proofs.leaves.write_flag.Goals as goal
 
 pub returns : goal.returns

@@ -1,11 +1,6 @@
-use Prim.Native.Nat.{◌+◌, ◌-◌, ◌≤◌}
 use Rattle.codec.proofs.Stored.{stored-number, number-end}
-use Rattle.codec.specs.Codec.{put_number, number}
-use Rattle.codec.specs.Stored.{stored}
-use Rattle.octets.proofs.Table.{at}
 use borrow.Author.Rules.{rules}
-use lib.ListN.{length}
-use mathlib.Core.Path.{◌≡◌, sym, ◌∙◌}
+use mathlib.Core.Path.{sym, ◌∙◌}
 use native.Mathlib.Nat.{add-zero, sub-zero}
 use Rattle.image.proofs.leaves.write_number.Goals as goal
 

@@ -1,5 +1,4 @@
 use Rattle.codec.proofs.Stored.{stored_one}
-use borrow.Author.Rules.{rules}
 use Rattle.image.proofs.leaves.write_octet.Goals as goal
 
 pub returns : goal.returns

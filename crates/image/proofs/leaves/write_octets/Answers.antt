@@ -1,10 +1,6 @@
-use Prim.Native.Nat.{◌+◌, ◌-◌, ◌≤◌}
 use Rattle.codec.proofs.Stored.{copy-turn, copy-end}
-use Rattle.codec.specs.Stored.{stored}
-use Rattle.octets.proofs.Table.{at}
 use borrow.Author.Rules.{rules}
-use lib.ListN.{length, drop}
-use mathlib.Core.Path.{◌≡◌, sym, ◌∙◌}
+use mathlib.Core.Path.{sym, ◌∙◌}
 use native.Mathlib.Nat.{add-zero}
 use Rattle.image.proofs.leaves.write_octets.Goals as goal
 

@@ -1,11 +1,7 @@
 use Prim.Native.Nat.{◌+◌, ◌-◌, ◌≤◌}
-use Rattle.codec.proofs.Stored.{copy-turn, copy-end}
 use Rattle.codec.specs.Stored.{stored}
-use Rattle.octets.proofs.Table.{at}
-use borrow.Author.Rules.{rules}
 use lib.ListN.{length, drop}
-use mathlib.Core.Path.{◌≡◌, sym, ◌∙◌}
-use native.Mathlib.Nat.{add-zero}
+use mathlib.Core.Path.{◌≡◌}
 use Rattle.image.proofs.leaves.write_octets.Given as goal
 
 abbrev pub invariant-loop-i : goal.invariant-loop-i

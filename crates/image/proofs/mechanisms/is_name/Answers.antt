@@ -1,5 +1,4 @@
 use Rattle.image.proofs.Table.{name-short, name-long}
-use borrow.Author.Rules.{rules}
 use mathlib.Core.Path.{sym, ◌∙◌}
 use Rattle.image.proofs.mechanisms.is_name.Goals as goal
 

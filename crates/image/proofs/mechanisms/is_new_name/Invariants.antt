@@ -1,13 +1,9 @@
 use Prim.Native.Nat.{◌+◌, ◌-◌, ◌*◌, ◌≤◌}
-use Rattle.codec.proofs.InPlace.{all_at_turn, all_at_end}
 use Rattle.codec.specs.InPlace.{every_at}
-use Rattle.image.proofs.Table.{same-name-at}
 use Rattle.image.specs.Private.{is_other_at}
 use Rattle.image.specs.Sizes.{mechanism_size}
-use borrow.Author.Rules.{rules}
 use mathlib.Core.Bool.{◌&&◌}
-use mathlib.Core.Path.{◌≡◌, sym}
-use native.Mathlib.Nat.{add-zero, sub-zero}
+use mathlib.Core.Path.{◌≡◌}
 use Rattle.image.proofs.mechanisms.is_new_name.Given as goal
 
 abbrev pub invariant-loop-i : goal.invariant-loop-i

@@ -1,10 +1,6 @@
-use Prim.Native.Nat.{◌+◌, ◌-◌, ◌≤◌}
-use Rattle.codec.specs.InPlace.{every_at}
 use Rattle.image.proofs.Pieces.{places-turn, places-end}
-use Rattle.image.specs.Private.{may_stand_at}
 use borrow.Author.Rules.{rules}
-use mathlib.Core.Bool.{◌&&◌}
-use mathlib.Core.Path.{◌≡◌, sym}
+use mathlib.Core.Path.{sym}
 use native.Mathlib.Nat.{add-zero}
 use Rattle.image.proofs.mechanisms.may_all_stand.Goals as goal
 

@@ -1,4 +1,3 @@
-use borrow.Author.Rules.{rules}
 use Rattle.image.proofs.mechanisms.may_stand.Goals as goal
 
 pub returns : goal.returns

@@ -1,5 +1,4 @@
 use Rattle.image.proofs.Table.{mechanism-fits}
-use borrow.Author.Rules.{rules}
 use Rattle.image.proofs.mechanisms.mechanism_fits.Goals as goal
 
 pub returns : goal.returns

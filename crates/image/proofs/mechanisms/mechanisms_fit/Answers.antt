@@ -1,6 +1,5 @@
 use Rattle.image.proofs.Table.{table-many, table_fits}
 use Rattle.image.specs.Sizes.{server_mechanisms}
-use borrow.Author.Rules.{rules}
 use native.Mathlib.Omega.{arith}
 use Rattle.image.proofs.mechanisms.mechanisms_fit.Goals as goal
 

@@ -1,10 +1,6 @@
-use Prim.Native.Nat.{◌+◌, ◌-◌, ◌*◌, ◌≤◌}
-use Rattle.image.proofs.Table.{records_fit, records-turn, records-end}
-use Rattle.image.specs.InPlace.{mechanism_offset}
-use Rattle.image.specs.Sizes.{mechanism_size}
+use Rattle.image.proofs.Table.{records-turn, records-end}
 use borrow.Author.Rules.{rules}
-use mathlib.Core.Bool.{◌&&◌}
-use mathlib.Core.Path.{◌≡◌, sym}
+use mathlib.Core.Path.{sym}
 use native.Mathlib.Nat.{add-zero, sub-zero}
 use Rattle.image.proofs.mechanisms.records_fit.Goals as goal
 

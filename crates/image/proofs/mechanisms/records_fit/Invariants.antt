@@ -1,11 +1,9 @@
 use Prim.Native.Nat.{◌+◌, ◌-◌, ◌*◌, ◌≤◌}
-use Rattle.image.proofs.Table.{records_fit, records-turn, records-end}
+use Rattle.image.proofs.Table.{records_fit}
 use Rattle.image.specs.InPlace.{mechanism_offset}
 use Rattle.image.specs.Sizes.{mechanism_size}
-use borrow.Author.Rules.{rules}
 use mathlib.Core.Bool.{◌&&◌}
-use mathlib.Core.Path.{◌≡◌, sym}
-use native.Mathlib.Nat.{add-zero, sub-zero}
+use mathlib.Core.Path.{◌≡◌}
 use Rattle.image.proofs.mechanisms.records_fit.Given as goal
 
 abbrev pub invariant-loop-i : goal.invariant-loop-i

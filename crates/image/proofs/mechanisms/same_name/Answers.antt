@@ -1,5 +1,4 @@
 use Rattle.image.proofs.Table.{names-other, names-rest}
-use borrow.Author.Rules.{rules}
 use borrow.Author.Tests.{eq-eqb, ne_eqb}
 use native.Mathlib.Omega.{arith}
 use Rattle.image.proofs.mechanisms.same_name.Goals as goal

@@ -1,5 +1,4 @@
 use Rattle.image.proofs.Offsets.{header-get}
-use borrow.Author.Rules.{rules}
 use Rattle.image.proofs.records.read_header.Goals as goal
 
 pub returns : goal.returns

@@ -1,5 +1,4 @@
 use Rattle.image.proofs.Offsets.{phase-get}
-use borrow.Author.Rules.{rules}
 use Rattle.image.proofs.records.read_phase.Goals as goal
 
 pub returns : goal.returns

@@ -1,5 +1,4 @@
 use Rattle.image.proofs.Offsets.{session-get}
-use borrow.Author.Rules.{rules}
 use Rattle.image.proofs.records.read_session.Goals as goal
 
 pub returns : goal.returns

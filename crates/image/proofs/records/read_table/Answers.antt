@@ -1,16 +1,10 @@
-use Prim.Native.Nat.{◌-◌, ◌≤◌}
 use Rattle.codec.proofs.Arrays.{get-start, get-turn, get-end}
-use Rattle.codec.specs.Codec.{get_array}
-use Rattle.codec.specs.Stored.{stored}
 use Rattle.image.proofs.Offsets.{mechanism-size}
 use Rattle.image.proofs.Parts.{table-read}
-use Rattle.image.specs.InPlace.{mechanism_offset}
 use Rattle.image.specs.Layout.{mechanism}
 use Rattle.image.specs.Sizes.{mechanism_size, server_mechanisms}
-use Rattle.server.specs.Limits.{most_mechanisms}
 use borrow.Author.Rules.{rules}
-use lib.ListN.{length, drop}
-use mathlib.Core.Path.{◌≡◌, refl}
+use mathlib.Core.Path.{refl}
 use native.Mathlib.Omega.{arith}
 use Rattle.image.proofs.records.read_table.Goals as goal
 

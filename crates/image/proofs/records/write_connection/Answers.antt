@@ -1,5 +1,4 @@
 use Rattle.image.proofs.Offsets.{connection-put}
-use borrow.Author.Rules.{rules}
 use Rattle.image.proofs.records.write_connection.Goals as goal
 
 pub returns : goal.returns

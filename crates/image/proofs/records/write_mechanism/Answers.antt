@@ -1,7 +1,6 @@
 use Rattle.codec.proofs.Arrays.{octets-put}
 use Rattle.image.proofs.Offsets.{mechanism-put}
-use borrow.Author.Rules.{rules}
-use lib.ListN.{length-map, length}
+use lib.ListN.{length}
 use mathlib.Core.Path.{◌≡◌}
 use native.Mathlib.Omega.{arith}
 use Rattle.image.proofs.records.write_mechanism.Goals as goal

@@ -1,5 +1,4 @@
 use Rattle.codec.proofs.Arrays.{octets-put}
-use borrow.Author.Rules.{rules}
 use lib.ListN.{length}
 use mathlib.Core.Path.{◌≡◌}
 use native.Mathlib.Omega.{arith}

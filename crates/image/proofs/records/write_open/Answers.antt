@@ -1,5 +1,4 @@
 use Rattle.image.proofs.Offsets.{slot-put}
-use borrow.Author.Rules.{rules}
 use Rattle.image.proofs.records.write_open.Goals as goal
 
 pub returns : goal.returns

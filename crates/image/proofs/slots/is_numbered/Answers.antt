@@ -1,5 +1,4 @@
 use Rattle.image.proofs.Places.{numbered-at}
-use borrow.Author.Rules.{rules}
 use Rattle.image.proofs.slots.is_numbered.Goals as goal
 
 pub returns : goal.returns

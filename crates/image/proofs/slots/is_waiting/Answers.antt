@@ -1,5 +1,4 @@
 use Rattle.image.proofs.Places.{waiting-at}
-use borrow.Author.Rules.{rules}
 use Rattle.image.proofs.slots.is_waiting.Goals as goal
 
 pub returns : goal.returns

@@ -1,7 +1,5 @@
 use Rattle.image.proofs.Differ.{first-empty, first-met, first-other, next-empty, next-met, next-other, next-end}
-use Rattle.image.specs.Private.{buckets_of, digits, empty_bucket}
-use borrow.Author.Rules.{rules}
-use mathlib.Core.Path.{◌≡◌, sym, ◌∙◌}
+use mathlib.Core.Path.{sym, ◌∙◌}
 use native.Mathlib.Omega.{arith}
 use Rattle.image.proofs.unique.find_empty.Goals as goal
 

@@ -1,8 +1,5 @@
-use Rattle.image.proofs.Differ.{first-empty, first-met, first-other, next-empty, next-met, next-other, next-end}
 use Rattle.image.specs.Private.{buckets_of, digits, empty_bucket}
-use borrow.Author.Rules.{rules}
-use mathlib.Core.Path.{◌≡◌, sym, ◌∙◌}
-use native.Mathlib.Omega.{arith}
+use mathlib.Core.Path.{◌≡◌}
 use Rattle.image.proofs.unique.find_empty.Given as goal
 
 abbrev pub invariant-loop-rest : goal.invariant-loop-rest

@@ -1,12 +1,7 @@
-use Prim.Native.Nat.{◌+◌, ◌-◌, ◌≤◌}
+use Prim.Native.Nat.{◌+◌, ◌-◌}
 use Rattle.image.proofs.Places.{every-at-start, every-at-pass, every-at_fail}
-use Rattle.image.specs.Private.{slots_at}
-use Rattle.octets.specs.Lists.{every}
-use Rattle.server.specs.Limits.{most_connections}
-use Rattle.server.specs.Slots.{is_waiting, holding}
 use borrow.Author.Rules.{rules}
-use lib.ListN.{drop}
-use mathlib.Core.Bool.{true, not}
+use mathlib.Core.Bool.{not}
 use mathlib.Core.Path.{◌≡◌, sym, ap, ◌∙◌}
 use native.Mathlib.Omega.{arith}
 use Rattle.image.proofs.unique.is_new_ticket.Goals as goal

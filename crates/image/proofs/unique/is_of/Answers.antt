@@ -1,5 +1,4 @@
 use Rattle.image.specs.Private.{is_of}
-use borrow.Author.Rules.{rules}
 use Rattle.image.proofs.unique.is_of.Goals as goal
 
 pub returns : goal.returns

@@ -1,5 +1,4 @@
 use Rattle.image.specs.Private.{spread}
-use borrow.Author.Rules.{rules}
 use mathlib.Core.Path.{refl}
 use Rattle.image.proofs.unique.spread.Goals as goal
 

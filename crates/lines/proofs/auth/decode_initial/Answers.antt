@@ -1,4 +1,3 @@
-use borrow.Author.Rules.{rules}
 use Rattle.lines.proofs.auth.decode_initial.Goals as goal
 
 pub returns-in-Malformed : goal.returns-in-Malformed

@@ -2,7 +2,6 @@ use Prim.Native.Nat.{ℕ}
 use Rattle.base64text.specs.Base64.{unchecked, unchecked_into}
 use Rattle.octets.proofs.Answers.{nothing_written}
 use Rattle.octets.proofs.Lists.{to_end}
-use borrow.Author.Rules.{rules}
 use mathlib.Core.List.{List, []}
 use mathlib.Core.Path.{◌≡◌, sym}
 use Rattle.lines.proofs.auth.decode_initial_unchecked.Goals as goal

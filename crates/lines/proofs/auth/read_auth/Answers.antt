@@ -1,6 +1,4 @@
 use Rattle.lines.proofs.Auths.{not-auth, no_name, alone, more}
-use borrow.Author.Rules.{rules}
-use borrow.Author.Tests.{not-true, not-false}
 use mathlib.Core.Path.{sym, ◌∙◌}
 use native.Mathlib.Omega.{arith}
 use Rattle.lines.proofs.auth.read_auth.Goals as goal

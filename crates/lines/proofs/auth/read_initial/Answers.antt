@@ -1,6 +1,5 @@
 use Rattle.lines.proofs.Auths.{equals, nothing, text}
 use Rattle.lines.specs.Auth.{given}
-use borrow.Author.Rules.{rules}
 use mathlib.Core.Path.{sym, ◌∙◌, ap}
 use Rattle.lines.proofs.auth.read_initial.Goals as goal
 

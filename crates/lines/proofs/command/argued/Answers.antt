@@ -1,7 +1,6 @@
 use Rattle.lines.proofs.Commands.{no-argument, argument}
 use Rattle.lines.specs.Verb.{space}
 use Rattle.octets.proofs.Words.{length_before}
-use borrow.Author.Rules.{rules}
 use native.Mathlib.Omega.{arith}
 use Rattle.lines.proofs.command.argued.Goals as goal
 

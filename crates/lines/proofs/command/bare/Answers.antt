@@ -1,5 +1,4 @@
 use Rattle.lines.proofs.Commands.{not-bare, is-bare}
-use borrow.Author.Rules.{rules}
 use native.Mathlib.Omega.{arith}
 use Rattle.lines.proofs.command.bare.Goals as goal
 

@@ -1,5 +1,4 @@
 use Rattle.lines.proofs.Commands.{too_long, short}
-use borrow.Author.Rules.{rules}
 use native.Mathlib.Omega.{arith}
 use Rattle.lines.proofs.command.is_understood.Goals as goal
 

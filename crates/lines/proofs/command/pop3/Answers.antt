@@ -1,4 +1,3 @@
-use borrow.Author.Rules.{rules}
 use Rattle.lines.proofs.command.pop3.Goals as goal
 
 pub returns-in-Auth : goal.returns-in-Auth

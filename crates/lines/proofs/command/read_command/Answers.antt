@@ -1,6 +1,4 @@
 use Rattle.lines.proofs.Commands.{not-understood, by-verb}
-use borrow.Author.Rules.{rules}
-use borrow.Author.Tests.{not-true, not-false}
 use mathlib.Core.Path.{sym, ◌∙◌}
 use Rattle.lines.proofs.command.read_command.Goals as goal
 

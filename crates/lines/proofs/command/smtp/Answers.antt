@@ -1,4 +1,3 @@
-use borrow.Author.Rules.{rules}
 use Rattle.lines.proofs.command.smtp.Goals as goal
 
 pub returns-in-Ehlo : goal.returns-in-Ehlo

@@ -1,11 +1,6 @@
-use Prim.Native.Nat.{◌-◌}
-use Rattle.lines.specs.Private.{name_char, formed}
+use Rattle.lines.specs.Private.{name_char}
 use Rattle.octets.proofs.Every.{every-step, every-stop, every-end, too_short, too_long, fitting}
-use Rattle.octets.specs.Lists.{every}
-use borrow.Author.Rules.{rules}
-use borrow.Author.Tests.{not-true, not-false}
-use lib.ListN.{length, drop}
-use mathlib.Core.Path.{◌≡◌, sym, ◌∙◌}
+use mathlib.Core.Path.{sym, ◌∙◌}
 use native.Mathlib.Omega.{arith}
 use Rattle.lines.proofs.mechanism.is_formed.Goals as goal
 

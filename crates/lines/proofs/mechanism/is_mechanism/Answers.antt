@@ -1,4 +1,3 @@
-use borrow.Author.Rules.{rules}
 use Rattle.lines.proofs.mechanism.is_mechanism.Goals as goal
 
 pub returns : goal.returns

@@ -1,5 +1,4 @@
 use Rattle.lines.proofs.Names.{name-char}
-use borrow.Author.Rules.{rules}
 use Rattle.lines.proofs.mechanism.is_name_char.Goals as goal
 
 pub returns : goal.returns

@@ -1,5 +1,4 @@
 use Rattle.lines.proofs.Names.{formed-spelling}
-use borrow.Author.Rules.{rules}
 use mathlib.Core.Path.{◌∙◌}
 use Rattle.lines.proofs.mechanism.is_spelling.Goals as goal
 

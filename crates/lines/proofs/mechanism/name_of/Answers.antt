@@ -1,5 +1,4 @@
 use Rattle.lines.proofs.Names.{name-written}
-use borrow.Author.Rules.{rules}
 use Rattle.lines.proofs.mechanism.name_of.Goals as goal
 
 pub returns : goal.returns

@@ -1,11 +1,8 @@
-use Prim.Native.Nat.{◌-◌, ◌<◌, ◌≤◌}
+use Prim.Native.Nat.{◌<◌}
 use Rattle.lines.proofs.Names.{spelled-short, spelled-first, spelled-next, spelled-last}
-use Rattle.lines.specs.Mechanism.{padded}
-use Rattle.octets.specs.Ascii.{capitals}
 use borrow.Author.Rules.{rules}
-use lib.ListN.{length, take, drop}
-use lib.Seq.{sets}
-use mathlib.Core.Path.{◌≡◌, ap}
+use lib.ListN.{length, take}
+use mathlib.Core.Path.{ap}
 use native.Mathlib.Omega.{arith}
 use Rattle.lines.proofs.mechanism.name_spelled.Goals as goal
 

@@ -1,12 +1,9 @@
-use Prim.Native.Nat.{◌-◌, ◌<◌, ◌≤◌}
-use Rattle.lines.proofs.Names.{spelled-short, spelled-first, spelled-next, spelled-last}
+use Prim.Native.Nat.{◌-◌, ◌≤◌}
 use Rattle.lines.specs.Mechanism.{padded}
 use Rattle.octets.specs.Ascii.{capitals}
-use borrow.Author.Rules.{rules}
 use lib.ListN.{length, take, drop}
 use lib.Seq.{sets}
-use mathlib.Core.Path.{◌≡◌, ap}
-use native.Mathlib.Omega.{arith}
+use mathlib.Core.Path.{◌≡◌}
 use Rattle.lines.proofs.mechanism.name_spelled.Given as goal
 
 abbrev pub invariant-loop-i : goal.invariant-loop-i

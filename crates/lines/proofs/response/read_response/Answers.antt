@@ -1,6 +1,5 @@
 use Rattle.lines.proofs.Responses.{too_long, star, text}
 use Rattle.lines.specs.Response.{decoding}
-use borrow.Author.Rules.{rules}
 use mathlib.Core.Path.{sym, ◌∙◌, ap}
 use native.Mathlib.Omega.{arith}
 use Rattle.lines.proofs.response.read_response.Goals as goal

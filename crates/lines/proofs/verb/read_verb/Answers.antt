@@ -1,5 +1,4 @@
 use Rattle.lines.proofs.Verbs.{five}
-use borrow.Author.Rules.{rules}
 use mathlib.Core.Path.{◌∙◌}
 use native.Mathlib.Nat.{zero-add}
 use Rattle.lines.proofs.verb.read_verb.Goals as goal

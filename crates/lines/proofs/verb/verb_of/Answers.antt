@@ -1,5 +1,4 @@
 use Rattle.lines.specs.Verb.{verb_of}
-use borrow.Author.Rules.{rules}
 use mathlib.Core.Path.{sym, ◌∙◌}
 use Rattle.lines.proofs.verb.verb_of.Goals as goal
 

@@ -1,10 +1,7 @@
 use Prim.Native.Nat.{◌-◌, ◌≤◌}
-use Rattle.server.proofs.Tables.{offer-here, offer-later, offer-none}
 use Rattle.server.specs.Mechanisms.{listed, offered}
-use borrow.Author.Rules.{rules}
 use lib.ListN.{length, drop}
-use mathlib.Core.Path.{◌≡◌, refl, sym, ◌∙◌}
-use native.Mathlib.Omega.{arith}
+use mathlib.Core.Path.{◌≡◌}
 use Rattle.server.proofs.Mechanisms.offer.Given as goal
 
 abbrev pub invariant-loop-i : goal.invariant-loop-i

@@ -1,4 +1,3 @@
-use borrow.Author.Rules.{rules}
 use Rattle.session.proofs.Session.accepted.Goals as goal
 
 pub returns-in-Challenge : goal.returns-in-Challenge

@@ -1,4 +1,3 @@
-use borrow.Author.Rules.{rules}
 use Rattle.session.proofs.Session.awaiting.Goals as goal
 
 pub returns-in-Command : goal.returns-in-Command

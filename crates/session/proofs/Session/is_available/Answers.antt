@@ -1,4 +1,3 @@
-use borrow.Author.Rules.{rules}
 use Rattle.session.proofs.Session.is_available.Goals as goal
 
 pub returns-in-Present : goal.returns-in-Present

@@ -1,4 +1,3 @@
-use borrow.Author.Rules.{rules}
 use Rattle.session.proofs.Session.is_wrong_moment.Goals as goal
 
 pub returns-in-Smtp : goal.returns-in-Smtp

@@ -1,5 +1,4 @@
 use Rattle.session.specs.Line.{after_line}
-use borrow.Author.Rules.{rules}
 use Rattle.session.proofs.Session.line.Goals as goal
 
 pub returns : goal.returns

@@ -1,5 +1,4 @@
 use Rattle.session.specs.Auth.{on_auth}
-use borrow.Author.Rules.{rules}
 use mathlib.Core.Path.{sym, ◌∙◌}
 use Rattle.session.proofs.Session.on_auth.Goals as goal
 

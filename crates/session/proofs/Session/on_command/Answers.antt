@@ -1,5 +1,4 @@
 use Rattle.session.specs.Command.{on_command}
-use borrow.Author.Rules.{rules}
 use Rattle.session.proofs.Session.on_command.Goals as goal
 
 pub returns-in-NotUnderstood : goal.returns-in-NotUnderstood

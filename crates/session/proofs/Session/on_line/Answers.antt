@@ -1,6 +1,5 @@
 use Rattle.session.specs.Line.{on_line}
 use Rattle.session.specs.declared.Phase.{Phase}
-use borrow.Author.Rules.{rules}
 use mathlib.Core.Path.{sym, ◌∙◌, ap}
 use Rattle.session.proofs.Session.on_line.Goals as goal
 

@@ -1,5 +1,4 @@
 use Rattle.session.proofs.Steps.{in_transaction, no-transaction}
-use borrow.Author.Rules.{rules}
 use mathlib.Core.Path.{◌∙◌}
 use Rattle.session.proofs.Session.on_mail.Goals as goal
 

@@ -1,5 +1,4 @@
 use Rattle.session.specs.Response.{on_response}
-use borrow.Author.Rules.{rules}
 use Rattle.session.proofs.Session.on_response.Goals as goal
 
 pub returns-in-TooLong : goal.returns-in-TooLong

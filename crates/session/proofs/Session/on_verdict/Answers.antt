@@ -1,5 +1,4 @@
 use Rattle.session.proofs.Steps.{well-given, ill_given}
-use borrow.Author.Rules.{rules}
 use mathlib.Core.Path.{sym, ◌∙◌}
 use Rattle.session.proofs.Session.on_verdict.Goals as goal
 

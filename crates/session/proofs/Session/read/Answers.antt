@@ -1,7 +1,6 @@
 use Rattle.session.specs.View.{view_in}
 use Rattle.session.specs.declared.Phase.{Phase}
 use Rattle.session.specs.declared.view.View.TheVariants as Views
-use borrow.Author.Rules.{rules}
 use mathlib.Core.Path.{sym, ◌∙◌, ap}
 use Rattle.session.proofs.Session.read.Goals as goal
 

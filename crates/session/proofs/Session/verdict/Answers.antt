@@ -1,5 +1,4 @@
 use Rattle.session.proofs.Steps.{no-ticket, this-ticket, other-ticket}
-use borrow.Author.Rules.{rules}
 use mathlib.Core.Path.{refl, ◌∙◌}
 use Rattle.session.proofs.Session.verdict.Goals as goal
 

@@ -1,6 +1,5 @@
 use Rattle.session.proofs.Steps.{name-part}
 use Rattle.session.specs.Session.{name_of}
-use borrow.Author.Rules.{rules}
 use mathlib.Core.Path.{◌∙◌}
 use Rattle.session.proofs.Session.write_name.Goals as goal
 

@@ -1,5 +1,4 @@
 use Rattle.session.proofs.Challenges.{prefix-short, no-challenge, three-parts}
-use borrow.Author.Rules.{rules}
 use mathlib.Core.Path.{refl}
 use native.Mathlib.Omega.{arith}
 use Rattle.session.proofs.answer.write_challenge.Goals as goal

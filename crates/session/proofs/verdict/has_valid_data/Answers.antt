@@ -1,5 +1,4 @@
 use Rattle.session.proofs.Steps.{no-octets}
-use borrow.Author.Rules.{rules}
 use Rattle.session.proofs.verdict.has_valid_data.Goals as goal
 
 pub returns-in-Challenge : goal.returns-in-Challenge

@@ -1,5 +1,4 @@
 use Rattle.octets.proofs.Padded.{padded-written}
-use borrow.Author.Rules.{rules}
 use Rattle.session.proofs.verdict.padded.Goals as goal
 
 pub returns : goal.returns

@@ -1,6 +1,4 @@
 use Rattle.umbrelnic.proofs.Adds.{add-sealed, add-bad, add-present, add-full, add-gives, add-leaves}
-use borrow.Author.Rules.{rules}
-use borrow.Author.Tests.{not-true, not-false}
 use mathlib.Core.Path.{refl, sym, ◌∙◌}
 use Rattle.umbrelnic.proofs.adding.add.Goals as goal
 

@@ -1,6 +1,4 @@
 use Rattle.umbrelnic.specs.Private.{placed}
-use borrow.Author.Rules.{rules}
-use borrow.Author.Tests.{not-true, not-false}
 use mathlib.Core.Path.{sym, ◌∙◌}
 use Rattle.umbrelnic.proofs.finding.find_ticket.Goals as goal
 

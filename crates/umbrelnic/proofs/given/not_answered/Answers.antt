@@ -1,4 +1,3 @@
-use borrow.Author.Rules.{rules}
 use Rattle.umbrelnic.proofs.given.not_answered.Goals as goal
 
 pub returns : goal.returns

@@ -1,4 +1,3 @@
-use borrow.Author.Rules.{rules}
 use Rattle.umbrelnic.proofs.given.not_told.Goals as goal
 
 pub returns : goal.returns

@@ -1,5 +1,4 @@
 use Rattle.umbrelnic.proofs.Opens.{open_full}
-use borrow.Author.Rules.{rules}
 use mathlib.Core.Path.{refl, sym, ◌∙◌}
 use Rattle.umbrelnic.proofs.opening.enter.Goals as goal
 

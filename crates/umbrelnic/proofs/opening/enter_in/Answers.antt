@@ -2,7 +2,6 @@ use Rattle.image.specs.InPlace.{header_read}
 use Rattle.server.specs.declared.Header.{Header}
 use Rattle.session.specs.Limits.{unissued}
 use Rattle.umbrelnic.proofs.Opens.{open_exhausted, open_gives, open-leaves}
-use borrow.Author.Rules.{rules}
 use mathlib.Core.Path.{◌≡◌, refl, sym, ap, ◌∙◌}
 use Rattle.umbrelnic.proofs.opening.enter_in.Goals as goal
 

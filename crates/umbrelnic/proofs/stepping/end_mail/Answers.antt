@@ -1,4 +1,3 @@
-use borrow.Author.Rules.{rules}
 use Rattle.umbrelnic.proofs.stepping.end_mail.Goals as goal
 
 pub returns : goal.returns

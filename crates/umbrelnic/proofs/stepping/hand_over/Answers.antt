@@ -1,7 +1,6 @@
 use Rattle.base64text.proofs.Laws.{unchecked-decoded}
 use Rattle.session.specs.Octets.{response_text}
 use Rattle.umbrelnic.specs.Private.{handed_in}
-use borrow.Author.Rules.{rules}
 use mathlib.Core.Path.{sym, ◌∙◌}
 use Rattle.umbrelnic.proofs.stepping.hand_over.Goals as goal
 

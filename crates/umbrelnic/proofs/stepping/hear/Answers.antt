@@ -1,5 +1,4 @@
 use Rattle.umbrelnic.proofs.Lines.{line-issued, line_responds, line-room, line-done}
-use borrow.Author.Rules.{rules}
 use Rattle.umbrelnic.proofs.stepping.hear.Goals as goal
 
 pub issue-requires : goal.issue-requires

@@ -1,6 +1,5 @@
 use Rattle.session.specs.Limits.{unissued}
 use Rattle.umbrelnic.specs.Private.{issued_in}
-use borrow.Author.Rules.{rules}
 use borrow.Author.Tests.{eqb-false}
 use mathlib.Core.Path.{sym, ◌∙◌}
 use native.Mathlib.Omega.{arith}

@@ -1,6 +1,5 @@
 use Rattle.octets.proofs.Answers.{nothing_written}
 use Rattle.umbrelnic.proofs.Verdicts.{verdict-unlisted}
-use borrow.Author.Rules.{rules}
 use mathlib.Core.Path.{sym, ◌∙◌}
 use Rattle.umbrelnic.proofs.stepping.judge.Goals as goal
 

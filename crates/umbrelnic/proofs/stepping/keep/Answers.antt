@@ -1,5 +1,4 @@
 use Rattle.umbrelnic.specs.Private.{kept_in}
-use borrow.Author.Rules.{rules}
 use mathlib.Core.Path.{sym, ◌∙◌}
 use Rattle.umbrelnic.proofs.stepping.keep.Goals as goal
 

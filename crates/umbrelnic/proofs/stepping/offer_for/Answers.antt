@@ -1,4 +1,3 @@
-use borrow.Author.Rules.{rules}
 use Rattle.umbrelnic.proofs.stepping.offer_for.Goals as goal
 
 pub returns : goal.returns

@@ -1,7 +1,6 @@
 use Prim.Native.Nat.{ℕ}
 use Rattle.session.specs.Answer.{heard, numbers}
 use Rattle.umbrelnic.proofs.Settles.{said-end, said-short}
-use borrow.Author.Rules.{rules}
 use mathlib.Core.Path.{sym, ap, ◌∙◌}
 use Rattle.umbrelnic.proofs.stepping.respond.Goals as goal
 

@@ -1,5 +1,4 @@
 use Rattle.umbrelnic.proofs.Verdicts.{verdict-room, verdict-done}
-use borrow.Author.Rules.{rules}
 use Rattle.umbrelnic.proofs.stepping.rule.Goals as goal
 
 pub respond-requires : goal.respond-requires

@@ -1,4 +1,3 @@
-use borrow.Author.Rules.{rules}
 use Rattle.umbrelnic.proofs.telling.tell.Goals as goal
 
 pub tell_of-requires : goal.tell_of-requires

@@ -3,7 +3,6 @@ use Rattle.octets.proofs.Answers.{nothing_written}
 use Rattle.session.proofs.Laws.{name-fits}
 use Rattle.session.specs.Session.{name_of}
 use Rattle.umbrelnic.proofs.Settles.{said-end, said-short}
-use borrow.Author.Rules.{rules}
 use lib.ListN.{length}
 use mathlib.Core.Path.{refl, sym, ◌∙◌}
 use native.Mathlib.Omega.{arith}

@@ -1,5 +1,4 @@
 use Rattle.session.specs.Answer.{heard}
-use borrow.Author.Rules.{rules}
 use Rattle.session.proofs.answer.Answer.say.Goals as goal
 
 pub returns-in-Refused : goal.returns-in-Refused

@@ -1,4 +1,3 @@
-use borrow.Author.Rules.{rules}
 use Rattle.session.proofs.view.View.decode_address.Goals as goal
 
 pub returns : goal.returns

@@ -1,4 +1,3 @@
-use borrow.Author.Rules.{rules}
 use Rattle.session.proofs.view.View.decode_response_unchecked.Goals as goal
 
 pub returns-in-Command : goal.returns-in-Command
