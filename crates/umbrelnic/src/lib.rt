@@ -66,16 +66,14 @@ pub struct Borne {
 }
 
 // How long an image is.
-#[unsafe(no_mangle)]
-pub extern "C" fn umbrelnic_image_octets() -> u64
+pub fn umbrelnic_image_octets() -> u64
     ensures { result ≡ image_size }
 {
     image::OCTETS as u64
 }
 
 // "Make a desk from a first connection number and a first ticket". Refused: 20.
-#[unsafe(no_mangle)]
-pub extern "C" fn umbrelnic_make(image: &mut [u8], connection: u64, ticket: u64) -> u64
+pub fn umbrelnic_make(image: &mut [u8], connection: u64, ticket: u64) -> u64
     ensures { let did = step image.old (Call.make connection ticket) in (result ≡ refusal did.result) × (image.new ≡ did.image) }
 {
     if image.len() != image::OCTETS {
@@ -86,13 +84,7 @@ pub extern "C" fn umbrelnic_make(image: &mut [u8], connection: u64, ticket: u64)
 }
 
 // "Add a mechanism: name, whether the client speaks first, whether it needs a protected connection." Refused: 20, 5, 11, 8, 9, 10.
-#[unsafe(no_mangle)]
-pub extern "C" fn umbrelnic_add(
-    image: &mut [u8],
-    name: &[u8],
-    client_first: u64,
-    needs_protection: u64,
-) -> u64
+pub fn umbrelnic_add(image: &mut [u8], name: &[u8], client_first: u64, needs_protection: u64) -> u64
     ensures { let did = step image.old (Call.add name.now client_first needs_protection) in (result ≡ refusal did.result) × (image.new ≡ did.image) }
 {
     if !image::is_taken(image) {
@@ -105,8 +97,7 @@ pub extern "C" fn umbrelnic_add(
 }
 
 // "Open: profile 0 SMTP or 1 POP3, protected or not; gives the connection's number." Refused: 20, 5, 6, 7.
-#[unsafe(no_mangle)]
-pub extern "C" fn umbrelnic_open(image: &mut [u8], profile: u64, protected: u64) -> Opened
+pub fn umbrelnic_open(image: &mut [u8], profile: u64, protected: u64) -> Opened
     ensures { let did = step image.old (Call.opens profile protected) in (result ≡ opened_of did.result) × (image.new ≡ did.image) }
 {
     if !image::is_taken(image) {
@@ -126,8 +117,7 @@ pub extern "C" fn umbrelnic_open(image: &mut [u8], profile: u64, protected: u64)
 }
 
 // "Line, for a connection, gives one of: passed on; a question (..); a reply." Refused: 1, 20, 2, 3, 7.
-#[unsafe(no_mangle)]
-pub extern "C" fn umbrelnic_line(
+pub fn umbrelnic_line(
     image: &mut [u8],
     connection: u64,
     line: &[u8],
@@ -147,8 +137,7 @@ pub extern "C" fn umbrelnic_line(
 }
 
 // "Verdict, for a ticket, gives a reply." Refused: 1, 20, 4, 5.
-#[unsafe(no_mangle)]
-pub extern "C" fn umbrelnic_verdict(
+pub fn umbrelnic_verdict(
     image: &mut [u8],
     ticket: u64,
     verdict: u64,
@@ -169,8 +158,7 @@ pub extern "C" fn umbrelnic_verdict(
 }
 
 // "Mail ended, for a connection: clears the transaction". Refused: 20, 2.
-#[unsafe(no_mangle)]
-pub extern "C" fn umbrelnic_mail_ended(image: &mut [u8], connection: u64) -> u64
+pub fn umbrelnic_mail_ended(image: &mut [u8], connection: u64) -> u64
     ensures { let did = step image.old (Call.mail_ended connection) in (result ≡ refusal did.result) × (image.new ≡ did.image) }
 {
     let place = finding::find_connection(image, connection);
@@ -184,8 +172,7 @@ pub extern "C" fn umbrelnic_mail_ended(image: &mut [u8], connection: u64) -> u64
 }
 
 // "Who: signed in or not, and the name." Refused: 1, 20, 2.
-#[unsafe(no_mangle)]
-pub extern "C" fn umbrelnic_who(image: &[u8], connection: u64, name: &mut [u8]) -> Borne
+pub fn umbrelnic_who(image: &[u8], connection: u64, name: &mut [u8]) -> Borne
     ensures { let did = step image.now (Call.who connection name.old) in (result ≡ borne_of did.result) × (image.now ≡ did.image) × (name.new ≡ name_after did name.old) }
 {
     if name.len() < Session::LONGEST_NAME {
@@ -199,8 +186,7 @@ pub extern "C" fn umbrelnic_who(image: &[u8], connection: u64, name: &mut [u8]) 
 }
 
 // "Close: clears the place and voids its ticket." Refused: 20, 2.
-#[unsafe(no_mangle)]
-pub extern "C" fn umbrelnic_close(image: &mut [u8], connection: u64) -> u64
+pub fn umbrelnic_close(image: &mut [u8], connection: u64) -> u64
     ensures { let did = step image.old (Call.close connection) in (result ≡ refusal did.result) × (image.new ≡ did.image) }
 {
     let place = finding::find_connection(image, connection);
