@@ -42,15 +42,15 @@ has() {
 face_of() {
     case $1 in
     lines) echo lineface ;;
-    calls) echo umbrelnic ;;
+    calls) echo umbrelnic_c ;;
     *) echo benchface ;;
     esac
 }
 
 prove() {
-    if ! (cd "$root" && rt staticlib "$1") >"$out/$1.log" 2>&1; then
+    if ! (cd "$root/crates/$1" && rt lib) >"$out/$1.log" 2>&1; then
         tail -n 20 "$out/$1.log" >&2
-        echo "run.sh: rt staticlib $1 failed; $out/$1.log has it whole" >&2
+        echo "run.sh: rt lib in crates/$1 failed; $out/$1.log has it whole" >&2
         exit 2
     fi
 }
@@ -74,8 +74,9 @@ build() {
     has GSASL gsasl.h '' -lgsasl
     has GLIB glib.h "$(pkg-config --cflags glib-2.0 2>/dev/null || :)" "$(pkg-config --libs glib-2.0 2>/dev/null || :)"
     for form in $forms; do
+        face=$(face_of "$form")
         gcc -std=c11 -O2 -Wall -Wextra $flags -o "$out/$form" "$here/$form.c" $(sources_of "$form") "$here/harness.c" \
-            "$root/target/staticlib/lib$(face_of "$form").a" $libs
+            "$root/crates/$face/out/lib$face.a" $libs
     done
 }
 

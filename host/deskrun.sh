@@ -1,12 +1,12 @@
 #!/usr/bin/env bash
 # Runs deskrun over scripts and compares what it prints: every pair of crates/deskrun/scripts, and scripts with long lines, which are made here.
-# usage: host/deskrun.sh [PROGRAM]      (rt check deskrun makes target/bin/deskrun)
+# usage: host/deskrun.sh [PROGRAM]      (rt ci, and rt run in crates/deskrun, make crates/deskrun/out/deskrun)
 set -u
 cd "$(dirname "$0")/.." || exit 1
-program=${1:-target/bin/deskrun}
+program=${1:-crates/deskrun/out/deskrun}
 scripts=crates/deskrun/scripts
 if [ ! -x "$program" ]; then
-    echo "FAIL deskrun: there is no $program; rt check deskrun makes target/bin/deskrun"
+    echo "FAIL deskrun: there is no $program; rt run in crates/deskrun makes crates/deskrun/out/deskrun"
     echo '0 passed, 1 failed'
     exit 1
 fi

@@ -1,6 +1,7 @@
 #!/bin/sh
 # Tests the calls from C.
-#   host/run.sh          on the library target/staticlib/libumbrelnic.a, which is made if it is not there or older than a source, and beside the model
+#   host/run.sh          on the library target/staticlib/libumbrelnic.a, which host/library.sh makes if it is not there or older than a source, and
+#                        beside the model
 #   host/run.sh model    on the model alone, with no library; what compares the two then compares the model with itself
 # CALLS (1000000) is how long the random comparison is, SEED (1) where it starts.
 # Prints a line for each test, and as its last line 'N passed, M failed'. Needs gcc and g++.
@@ -63,17 +64,17 @@ need_compilers() {
 # the library, made anew where a source is newer: begun here, while the tests are compiled, and waited for by need_library
 making=''
 make_library() {
-    if [ -z "$library" ] || { [ -f "$library" ] && [ -z "$(find crates -name '*.rt' -newer "$library" | head -n 1)" ]; }; then
+    if [ -z "$library" ] || { [ -f "$library" ] && [ -z "$(find crates -name out -prune -o -name '*.rt' -newer "$library" -print | head -n 1)" ]; }; then
         return
     fi
-    rt staticlib umbrelnic >"$out/staticlib.log" 2>&1 &
+    sh host/library.sh >"$out/library.log" 2>&1 &
     making=$!
 }
 
 need_library() {
     if [ -n "$making" ] && ! wait "$making"; then
-        tail -n 20 "$out/staticlib.log"
-        failed "library: rt staticlib umbrelnic failed; $out/staticlib.log has it whole"
+        tail -n 20 "$out/library.log"
+        failed "library: host/library.sh failed; $out/library.log has it whole"
         finish
     fi
 }

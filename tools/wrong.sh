@@ -4,12 +4,11 @@
 #   tools/wrong.sh NAME/LABEL ..   tries crates/NAME/must-fail/LABEL.edit or crates/NAME/wrong/LABEL.edit
 #   tools/wrong.sh NAME ..         tries all edits of a crate
 #   tools/wrong.sh fits            proves nothing: whether what each edit on demand replaces stands once in its file; ends with 'N passed, M failed'
-# Of each it says whether it was refused, and prints the prover's first errors, so that a reader sees which fact failed (ERRORS=n: so many, 3 if not set).
-# What was proved before (target/) serves as it stands; crates that changed since are proved first, in the copy.
+# Of each it says whether it was refused and the prover's first error, so that a reader sees which fact failed.
+# What rt keeps of earlier checks on this machine serves; of a crate that changed since, and of those below it, the rest is proved first, in the copy.
 # Ends with 0 where every edit that was tried was refused.
 set -u
 cd "$(dirname "$0")/.." || exit 2
-errors=${ERRORS:-3}
 
 # edits NAME: the edits of a crate, a path a line
 edits() {
@@ -80,31 +79,24 @@ done
 
 room=$(mktemp -d) || exit 2
 trap 'rm -rf "$room"' EXIT
-# the copy has no edits but the one that is tried; rt tries whatever stands in must-fail
-mkdir "$room/crates"
-cp crates.txt "$room/"
-cp -a crates/. "$room/crates/"
-rm -rf "$room"/crates/*/must-fail "$room"/crates/*/wrong
-if [ -d target/stamp ]; then
-    mkdir "$room/target"
-    cp -a target/stamp target/rlib "$room/target/"
-fi
-
-survived=0
+# the copy has no edits but those that are tried; rt tries whatever stands in must-fail
+tar -cf - --exclude=out --exclude=must-fail --exclude=wrong crates.txt crates | tar -xf - -C "$room" || exit 2
+mapfile -t crates < <(printf '%s\n' "${wanted[@]}" | cut -d/ -f2 | sort -u)
 for edit in "${wanted[@]}"; do
     crate=$(cut -d/ -f2 <<<"$edit")
-    label=$(basename "$edit" .edit)
     mkdir -p "$room/crates/$crate/must-fail"
     cp "$edit" "$room/crates/$crate/must-fail/"
+done
+
+survived=0
+for crate in "${crates[@]}"; do
     (cd "$room" && rt must-fail "$crate") >"$room/log" 2>&1
     status=$?
-    if ! grep "^rt: must-fail $crate/$label:" "$room/log"; then
+    # a line for each edit; of one that was not tried, or is bad, what was said of it stands below
+    if ! sed -n '/^rt: must-fail /,$p' "$room/log" | grep .; then
         tail -n 20 "$room/log"
-        echo "wrong: $crate/$label was not tried: the crate itself, or one below it, is not proved" >&2
+        echo "wrong: no edit of $crate was tried: the crate itself, or one below it, is not proved" >&2
     fi
     [ "$status" -eq 0 ] || survived=$((survived + 1))
-    log=$room/target/must-fail/$crate/$label/.log
-    [ ! -f "$log" ] || grep -A2 ': error' "$log" | cut -c 1-300 | sed "s|$room/target/must-fail/$crate/$label/|    |" | head -n "$((errors * 4))"
-    rm -r "$room/crates/$crate/must-fail"
 done
 [ "$survived" -eq 0 ]

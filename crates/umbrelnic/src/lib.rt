@@ -1,4 +1,4 @@
-// The calls, for a host in C: functions over an image and octet buffers. include/umbrelnic.h declares them.
+// The calls, for a host: functions over an image and octet buffers. The crate umbrelnic_c exports them to C; include/umbrelnic.h declares them there.
 //
 // Each promise says, for any octets and any numbers, what the call gives, the image that it leaves and what each lent buffer holds then.
 #![tactic(auto)]
