@@ -8,55 +8,58 @@ use crate::form::Form;
 use crate::show::{number, put, quoted};
 use crate::words::{index, octet, rest};
 use crate::{rows, show};
+use std::io;
 
-fn vector(bytes: &[u8]) {
-    put(b"BASE64(");
-    quoted(bytes);
-    put(b") = ");
-    rows::text_of(Form::Base64, bytes);
-    put(b"\n");
+fn vector(rt: &impl Print, bytes: &[u8]) -> io::Result<()> {
+    put(rt, b"BASE64(")?;
+    quoted(rt, bytes)?;
+    put(rt, b") = ")?;
+    rows::text_of(rt, Form::Base64, bytes)?;
+    put(rt, b"\n")
 }
 
-fn letters(n: usize) {
+fn letters(rt: &impl Print, n: usize) -> io::Result<()> {
     let text = [b'A'; 12288];
     let mut out = [0u8; 9216];
-    number(n);
-    put(b" letters: ");
-    show::measured(base64text::measure_part(&text, 0, n));
-    put(b", ");
-    show::decoded(base64text::decode_part(&text, 0, n, &mut out));
-    put(b"\n");
+    number(rt, n)?;
+    put(rt, b" letters: ")?;
+    show::measured(rt, base64text::measure_part(&text, 0, n))?;
+    put(rt, b", ")?;
+    show::decoded(rt, base64text::decode_part(&text, 0, n, &mut out))?;
+    put(rt, b"\n")
 }
 
-fn case(f: Form, row: &[u8]) {
+fn case(rt: &impl Print, f: Form, row: &[u8]) -> io::Result<()> {
     let text = octets::part(row, 2, row.len());
     let n = index(text, 0);
     match octet(row, 0) {
-        b'v' => vector(text),
-        b'r' => rows::read_each(f, text),
-        b'd' => rows::decode_into(f, rest(text, 1), n),
-        b'u' => rows::decode_unchecked_into(rest(text, 1), n),
-        b'e' => rows::encode_into(f, rest(text, 2), n, index(text, 1)),
-        b'p' => rows::read_part(f, rest(text, 2), n, index(text, 1)),
-        b't' => rows::taken(f, text),
-        b'a' => rows::all_octets(f, n),
-        b'l' => letters(n),
-        _ => put(b"not done\n"),
+        b'v' => vector(rt, text),
+        b'r' => rows::read_each(rt, f, text),
+        b'd' => rows::decode_into(rt, f, rest(text, 1), n),
+        b'u' => rows::decode_unchecked_into(rt, rest(text, 1), n),
+        b'e' => rows::encode_into(rt, f, rest(text, 2), n, index(text, 1)),
+        b'p' => rows::read_part(rt, f, rest(text, 2), n, index(text, 1)),
+        b't' => rows::taken(rt, f, text),
+        b'a' => rows::all_octets(rt, f, n),
+        b'l' => letters(rt, n),
+        _ => put(rt, b"not done\n"),
     }
 }
 
-fn each(f: Form, list: &[u8]) {
+fn each(rt: &impl Print, f: Form, list: &[u8]) -> io::Result<()> {
     let mut from: usize = 0;
     while from <= list.len() {
         let to = octets::find(list, from, b';');
-        case(f, octets::part(list, from, to));
+        case(rt, f, octets::part(list, from, to))?;
         from = to + 1;
     }
+    Ok(())
 }
 
 // Not base64: unused bits, "=" elsewhere than at the end, another length, another octet.
-fn base64() {
+fn base64(rt: &impl Print) -> io::Result<()> {
     each(
+        rt,
         Form::Base64,
         b"v ;v f;v fo;v foo;v foob;v fooba;v foobar;\
         r |Zg==|Zm8=|Zm9v|Zm9vYg==|Zm9vYmE=|Zm9vYmFy|dGVzdAB0ZXN0ADEyMzQ=|\
@@ -70,12 +73,13 @@ fn base64() {
         p 11 15 AUTH PLAIN Zm9v;p 11 99 AUTH PLAIN Zm9v;p 10 15 AUTH PLAIN Zm9v;p 15 15 AUTH PLAIN Zm9v;p 15 11 AUTH PLAIN Zm9v;\
         p 99 18446744073709551615 AUTH PLAIN Zm9v;\
         t AAAA;a 344;l 12280;l 12284;l 12285;l 12286;l 12287",
-    );
+    )
 }
 
 // Not xtext: small digits, what must be escaped, an escape cut short, no digits.
-fn xtext() {
+fn xtext(rt: &impl Print) -> io::Result<()> {
     each(
+        rt,
         Form::Xtext,
         b"r e+3Dmc2@example.com||<>|+3C+3E|+2B|+61|+3D+41+42|+00+0A+FF|!*,<>~;\
         r +3d|+3D+4a|e=mc2@example.com|a b|a\r\n|a\x00|a\x7f|a\xff|+|+3|a+|a+3|++3D|+G0|+0G|+0/|+:0|+@0;\
@@ -87,10 +91,10 @@ fn xtext() {
         p 54 54 MAIL FROM:<e=mc2@example.com> AUTH=e+3Dmc2@example.com;\
         p 54 35 MAIL FROM:<e=mc2@example.com> AUTH=e+3Dmc2@example.com;\
         t +00A;a 584",
-    );
+    )
 }
 
-pub(crate) fn run() {
-    base64();
-    xtext();
+pub(crate) fn run(rt: &impl Print) -> io::Result<()> {
+    base64(rt)?;
+    xtext(rt)
 }

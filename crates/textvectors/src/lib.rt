@@ -7,6 +7,8 @@ mod rows;
 pub mod show;
 pub mod words;
 
-pub fn run() {
-    cases::run();
+use std::io;
+
+pub fn run(rt: &impl Print) -> io::Result<()> {
+    cases::run(rt)
 }

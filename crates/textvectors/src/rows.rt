@@ -5,111 +5,116 @@ use crate::form::Form;
 use crate::show::{number, put, quoted};
 use crate::{form, show};
 use octets::{Decoded, Encoded, Measured};
+use std::io;
 
 // How a row begins, what it is about, and how it ends.
-fn heading(f: Form, word: &[u8], text: &[u8]) {
-    show::form(f);
-    put(word);
-    quoted(text);
+fn heading(rt: &impl Print, f: Form, word: &[u8], text: &[u8]) -> io::Result<()> {
+    show::form(rt, f)?;
+    put(rt, word)?;
+    quoted(rt, text)
 }
 
-fn amount(word: &[u8], n: usize) {
-    put(word);
-    number(n);
+fn amount(rt: &impl Print, word: &[u8], n: usize) -> io::Result<()> {
+    put(rt, word)?;
+    number(rt, n)
 }
 
-fn ending(row: &[u8]) {
-    put(b", ");
-    quoted(row);
-    put(b"\n");
+fn ending(rt: &impl Print, row: &[u8]) -> io::Result<()> {
+    put(rt, b", ")?;
+    quoted(rt, row)?;
+    put(rt, b"\n")
 }
 
 // The text of some octets.
-pub(crate) fn text_of(f: Form, bytes: &[u8]) {
+pub(crate) fn text_of(rt: &impl Print, f: Form, bytes: &[u8]) -> io::Result<()> {
     let mut text = [0u8; 192];
     let e = form::encode(f, bytes, &mut text, 0);
     match e {
-        Encoded::End(n) => {
-            quoted(octets::part(&text, 0, n));
-        }
-        Encoded::Short => {
-            put(b"short");
-        }
+        Encoded::End(n) => quoted(rt, octets::part(&text, 0, n)),
+        Encoded::Short => put(rt, b"short"),
     }
 }
 
 // A text: how many octets it stands for, which, and their text.
-fn read(f: Form, text: &[u8]) {
+fn read(rt: &impl Print, f: Form, text: &[u8]) -> io::Result<()> {
     let mut out = [0u8; 64];
-    heading(f, b" ", text);
-    put(b": ");
-    show::measured(form::measure(f, text));
+    heading(rt, f, b" ", text)?;
+    put(rt, b": ")?;
+    show::measured(rt, form::measure(f, text))?;
     let d = form::decode(f, text, &mut out);
     match d {
         Decoded::Length(n) => {
-            again(f, octets::part(&out, 0, n));
+            again(rt, f, octets::part(&out, 0, n))?;
         }
         Decoded::Malformed => {}
         Decoded::Short => {
-            put(b", short");
+            put(rt, b", short")?;
         }
     }
-    put(b"\n");
+    put(rt, b"\n")
 }
 
-fn again(f: Form, bytes: &[u8]) {
-    put(b", ");
-    quoted(bytes);
-    put(b", again ");
-    text_of(f, bytes);
+fn again(rt: &impl Print, f: Form, bytes: &[u8]) -> io::Result<()> {
+    put(rt, b", ")?;
+    quoted(rt, bytes)?;
+    put(rt, b", again ")?;
+    text_of(rt, f, bytes)
 }
 
 // Each text of a list, with "|" between them.
-pub(crate) fn read_each(f: Form, list: &[u8]) {
+pub(crate) fn read_each(rt: &impl Print, f: Form, list: &[u8]) -> io::Result<()> {
     let mut from: usize = 0;
     while from <= list.len() {
         let to = octets::find(list, from, b'|');
-        read(f, octets::part(list, from, to));
+        read(rt, f, octets::part(list, from, to))?;
         from = to + 1;
     }
+    Ok(())
 }
 
 // A part of a line, decoded into a row of dots.
-pub(crate) fn read_part(f: Form, line: &[u8], from: usize, to: usize) {
+pub(crate) fn read_part(
+    rt: &impl Print,
+    f: Form,
+    line: &[u8],
+    from: usize,
+    to: usize,
+) -> io::Result<()> {
     let mut dots = *b"....................";
-    heading(f, b" ", line);
-    amount(b" from ", from);
-    amount(b" to ", to);
-    put(b": ");
-    show::measured(form::measure_part(f, line, from, to));
-    put(b", ");
-    show::decoded(form::decode_part(f, line, from, to, &mut dots));
-    ending(&dots);
+    heading(rt, f, b" ", line)?;
+    amount(rt, b" from ", from)?;
+    amount(rt, b" to ", to)?;
+    put(rt, b": ")?;
+    show::measured(rt, form::measure_part(f, line, from, to))?;
+    put(rt, b", ")?;
+    show::decoded(rt, form::decode_part(f, line, from, to, &mut dots))?;
+    ending(rt, &dots)
 }
 
 // A row of dots of which the first m were lent to decode a text into.
-pub(crate) fn decode_into(f: Form, text: &[u8], m: usize) {
+pub(crate) fn decode_into(rt: &impl Print, f: Form, text: &[u8], m: usize) -> io::Result<()> {
     let mut dots = *b"........";
-    heading(f, b" ", text);
-    amount(b" into ", m);
-    put(b": ");
-    decode_to(f, text, m, &mut dots);
-    ending(&dots);
+    heading(rt, f, b" ", text)?;
+    amount(rt, b" into ", m)?;
+    put(rt, b": ")?;
+    decode_to(rt, f, text, m, &mut dots)?;
+    ending(rt, &dots)
 }
 
-fn decode_to(f: Form, text: &[u8], m: usize, dots: &mut [u8]) {
+fn decode_to(rt: &impl Print, f: Form, text: &[u8], m: usize, dots: &mut [u8]) -> io::Result<()> {
     if m <= dots.len() {
-        show::decoded(form::decode(f, text, &mut dots[..m]));
+        show::decoded(rt, form::decode(f, text, &mut dots[..m]))?;
     }
+    Ok(())
 }
 
 // The same of base64 whose form is not looked at.
-pub(crate) fn decode_unchecked_into(text: &[u8], m: usize) {
+pub(crate) fn decode_unchecked_into(rt: &impl Print, text: &[u8], m: usize) -> io::Result<()> {
     let mut dots = *b"........";
-    heading(Form::Base64, b" ", text);
-    amount(b" unchecked into ", m);
+    heading(rt, Form::Base64, b" ", text)?;
+    amount(rt, b" unchecked into ", m)?;
     decode_unchecked_to(text, m, &mut dots);
-    ending(&dots);
+    ending(rt, &dots)
 }
 
 fn decode_unchecked_to(text: &[u8], m: usize, dots: &mut [u8]) {
@@ -119,33 +124,47 @@ fn decode_unchecked_to(text: &[u8], m: usize, dots: &mut [u8]) {
 }
 
 // A row of dots of which the first m were lent to encode octets into from an index on.
-pub(crate) fn encode_into(f: Form, bytes: &[u8], m: usize, at: usize) {
+pub(crate) fn encode_into(
+    rt: &impl Print,
+    f: Form,
+    bytes: &[u8],
+    m: usize,
+    at: usize,
+) -> io::Result<()> {
     let mut dots = *b"........";
-    heading(f, b" of ", bytes);
-    amount(b" into ", m);
-    amount(b" from ", at);
-    put(b": ");
-    encode_to(f, bytes, m, at, &mut dots);
-    ending(&dots);
+    heading(rt, f, b" of ", bytes)?;
+    amount(rt, b" into ", m)?;
+    amount(rt, b" from ", at)?;
+    put(rt, b": ")?;
+    encode_to(rt, f, bytes, m, at, &mut dots)?;
+    ending(rt, &dots)
 }
 
-fn encode_to(f: Form, bytes: &[u8], m: usize, at: usize, dots: &mut [u8]) {
+fn encode_to(
+    rt: &impl Print,
+    f: Form,
+    bytes: &[u8],
+    m: usize,
+    at: usize,
+    dots: &mut [u8],
+) -> io::Result<()> {
     if m <= dots.len() {
-        show::encoded(form::encode(f, bytes, &mut dots[..m], at));
+        show::encoded(rt, form::encode(f, bytes, &mut dots[..m], at))?;
     }
+    Ok(())
 }
 
 // How many octets of all 256 are taken at each place of a text.
-pub(crate) fn taken(f: Form, text: &[u8]) {
+pub(crate) fn taken(rt: &impl Print, f: Form, text: &[u8]) -> io::Result<()> {
     let mut four = [0u8; 4];
     octets::write(text, &mut four, 0);
-    heading(f, b" ", text);
-    put(b" with another octet at each place, taken:");
-    amount(b" ", taken_at(f, four, 0));
-    amount(b" ", taken_at(f, four, 1));
-    amount(b" ", taken_at(f, four, 2));
-    amount(b" ", taken_at(f, four, 3));
-    put(b"\n");
+    heading(rt, f, b" ", text)?;
+    put(rt, b" with another octet at each place, taken:")?;
+    amount(rt, b" ", taken_at(f, four, 0))?;
+    amount(rt, b" ", taken_at(f, four, 1))?;
+    amount(rt, b" ", taken_at(f, four, 2))?;
+    amount(rt, b" ", taken_at(f, four, 3))?;
+    put(rt, b"\n")
 }
 
 fn taken_at(f: Form, text: [u8; 4], place: usize) -> usize {
@@ -180,40 +199,39 @@ fn is_valid(f: Form, text: &[u8; 4]) -> usize
 }
 
 // All 256 octets, encoded into a buffer of the text's length and decoded again.
-pub(crate) fn all_octets(f: Form, n: usize) {
+pub(crate) fn all_octets(rt: &impl Print, f: Form, n: usize) -> io::Result<()> {
     let mut text = [0u8; 584];
     if n <= 584 {
-        all_octets_in(f, &mut text[..n]);
+        all_octets_in(rt, f, &mut text[..n])?;
     }
+    Ok(())
 }
 
-fn all_octets_in(f: Form, text: &mut [u8]) {
+fn all_octets_in(rt: &impl Print, f: Form, text: &mut [u8]) -> io::Result<()> {
     let bytes = octets_from_zero();
     let mut back = [0u8; 256];
-    show::form(f);
-    put(b" of all octets: ");
-    show::encoded(form::encode(f, &bytes, text, 0));
-    put(b", ");
-    quoted(text);
-    put(b", ");
-    show::decoded(form::decode(f, text, &mut back));
-    compared(&bytes, &back);
+    show::form(rt, f)?;
+    put(rt, b" of all octets: ")?;
+    show::encoded(rt, form::encode(f, &bytes, text, 0))?;
+    put(rt, b", ")?;
+    quoted(rt, text)?;
+    put(rt, b", ")?;
+    show::decoded(rt, form::decode(f, text, &mut back))?;
+    compared(rt, &bytes, &back)
 }
 
-fn compared(bytes: &[u8], back: &[u8]) {
-    if check::same(bytes, back) {
-        put(b", the same\n");
+fn compared(rt: &impl Print, bytes: &[u8], back: &[u8]) -> io::Result<()> {
+    if bytes == back {
+        put(rt, b", the same\n")
     } else {
-        put(b", others\n");
+        put(rt, b", others\n")
     }
 }
 
 fn octets_from_zero() -> [u8; 256] {
     let mut a = [0u8; 256];
-    let mut i: usize = 0;
-    while i < 256 {
+    for i in 0..256usize {
         a[i] = (i % 256) as u8;
-        i += 1;
     }
     a
 }

@@ -1,79 +1,71 @@
 // Printing of texts, octets and answers.
 use crate::form::Form;
-use libc::STDOUT_FILENO;
 use octets::{Decoded, Encoded, Measured};
+use std::io;
 
-pub fn put(text: &[u8]) {
-    io::write_all(STDOUT_FILENO, text);
+pub fn put(rt: &impl Print, text: &[u8]) -> io::Result<()> {
+    rt.write_all(text)
 }
 
-pub fn number(n: usize) {
-    io::print_decimal(STDOUT_FILENO, n as u64);
+pub fn number(rt: &impl Print, n: usize) -> io::Result<()> {
+    print!(rt; "{n}")
 }
 
-pub(crate) fn form(f: Form) {
+pub(crate) fn form(rt: &impl Print, f: Form) -> io::Result<()> {
     match f {
-        Form::Base64 => put(b"base64"),
-        Form::Xtext => put(b"xtext"),
+        Form::Base64 => put(rt, b"base64"),
+        Form::Xtext => put(rt, b"xtext"),
     }
 }
 
 // Octets in quotes, what is not printable in ASCII as "\x" and two digits.
-pub fn quoted(bytes: &[u8]) {
-    put(b"\"");
-    let mut i: usize = 0;
-    while i < bytes.len() {
-        let x = bytes[i];
-        if (32 <= x) & (x <= 126) {
-            put(octets::part(bytes, i, i + 1));
-        } else {
-            escaped(x);
-        }
-        i += 1;
+pub fn quoted(rt: &impl Print, bytes: &[u8]) -> io::Result<()> {
+    put(rt, b"\"")?;
+    for x in bytes {
+        octet(rt, *x)?;
     }
-    put(b"\"");
+    put(rt, b"\"")
 }
 
-fn escaped(x: u8) {
-    put(b"\\x");
-    io::print_hex(STDOUT_FILENO, x as u64, 2);
+fn octet(rt: &impl Print, x: u8) -> io::Result<()> {
+    if (32 <= x) & (x <= 126) {
+        put(rt, &[x])
+    } else {
+        escaped(rt, x)
+    }
 }
 
-pub fn measured(m: Measured) {
+fn escaped(rt: &impl Print, x: u8) -> io::Result<()> {
+    print!(rt; "\\x{x:02x}")
+}
+
+pub fn measured(rt: &impl Print, m: Measured) -> io::Result<()> {
     match m {
         Measured::Length(n) => {
-            put(b"length ");
-            number(n);
+            put(rt, b"length ")?;
+            number(rt, n)
         }
-        Measured::Malformed => {
-            put(b"malformed");
-        }
+        Measured::Malformed => put(rt, b"malformed"),
     }
 }
 
-pub fn decoded(d: Decoded) {
+pub fn decoded(rt: &impl Print, d: Decoded) -> io::Result<()> {
     match d {
         Decoded::Length(n) => {
-            put(b"length ");
-            number(n);
+            put(rt, b"length ")?;
+            number(rt, n)
         }
-        Decoded::Malformed => {
-            put(b"malformed");
-        }
-        Decoded::Short => {
-            put(b"short");
-        }
+        Decoded::Malformed => put(rt, b"malformed"),
+        Decoded::Short => put(rt, b"short"),
     }
 }
 
-pub fn encoded(e: Encoded) {
+pub fn encoded(rt: &impl Print, e: Encoded) -> io::Result<()> {
     match e {
         Encoded::End(n) => {
-            put(b"end ");
-            number(n);
+            put(rt, b"end ")?;
+            number(rt, n)
         }
-        Encoded::Short => {
-            put(b"short");
-        }
+        Encoded::Short => put(rt, b"short"),
     }
 }

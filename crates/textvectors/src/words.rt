@@ -6,10 +6,8 @@ pub fn octet(bytes: &[u8], i: usize) -> u8 {
 // Where word i begins.
 fn start(row: &[u8], i: usize) -> usize {
     let mut at: usize = 0;
-    let mut k: usize = 0;
-    while k < i {
+    for _ in 0..i {
         at = std::num::wrapping_add_usize(octets::find(row, at, b' '), 1);
-        k += 1;
     }
     at
 }
@@ -26,13 +24,10 @@ pub fn rest(row: &[u8], i: usize) -> &[u8] {
 
 // A decimal number below 2^64.
 pub fn number(row: &[u8], i: usize) -> u64 {
-    let digits = word(row, i);
     let mut n: u64 = 0;
-    let mut k: usize = 0;
-    while k < digits.len() {
-        let digit = std::num::wrapping_sub_u8(digits[k], b'0');
+    for x in word(row, i) {
+        let digit = std::num::wrapping_sub_u8(*x, b'0');
         n = std::num::wrapping_add_u64(n % 1844674407370955162 * 10, digit as u64);
-        k += 1;
     }
     n
 }

@@ -8,12 +8,13 @@ use crate::each::{lines, responses};
 use crate::octet_counts::with_each;
 use crate::{long, number_cases};
 use profile::Profile;
+use std::io;
 use textvectors::show::put;
 use textvectors::words::{index, number, octet, rest};
 
-fn both(list: &[u8]) {
-    lines(Profile::smtp(), list);
-    lines(Profile::pop3(), list);
+fn both(rt: &impl Print, list: &[u8]) -> io::Result<()> {
+    lines(rt, Profile::smtp(), list)?;
+    lines(rt, Profile::pop3(), list)
 }
 
 fn profile(text: &[u8]) -> Profile {
@@ -24,49 +25,52 @@ fn profile(text: &[u8]) -> Profile {
     }
 }
 
-fn on_profile(kind: u8, p: Profile, text: &[u8]) {
+fn on_profile(rt: &impl Print, kind: u8, p: Profile, text: &[u8]) -> io::Result<()> {
     let n = index(text, 1);
     match kind {
-        b'l' => lines(p, rest(text, 1)),
-        b'r' => responses(p, rest(text, 1)),
-        b'e' => with_each(p, rest(text, 2), n),
-        b'n' => long::line(p, rest(text, 2), n),
-        b'm' => long::mail(p, n),
-        b'a' => long::response(p, n),
-        b'h' => long::huge(p),
-        _ => put(b"not done\n"),
+        b'l' => lines(rt, p, rest(text, 1)),
+        b'r' => responses(rt, p, rest(text, 1)),
+        b'e' => with_each(rt, p, rest(text, 2), n),
+        b'n' => long::line(rt, p, rest(text, 2), n),
+        b'm' => long::mail(rt, p, n),
+        b'a' => long::response(rt, p, n),
+        b'h' => long::huge(rt, p),
+        _ => put(rt, b"not done\n"),
     }
 }
 
-fn case(row: &[u8]) {
+fn case(rt: &impl Print, row: &[u8]) -> io::Result<()> {
     let kind = octet(row, 0);
     let text = octets::part(row, 2, row.len());
     match kind {
-        b'f' => number_cases::profile_row(number(text, 0)),
-        b'v' => number_cases::verdict_row(number(text, 0)),
-        b'b' => both(text),
-        _ => on_profile(kind, profile(text), text),
+        b'f' => number_cases::profile_row(rt, number(text, 0)),
+        b'v' => number_cases::verdict_row(rt, number(text, 0)),
+        b'b' => both(rt, text),
+        _ => on_profile(rt, kind, profile(text), text),
     }
 }
 
-fn each(list: &[u8]) {
+fn each(rt: &impl Print, list: &[u8]) -> io::Result<()> {
     let mut from: usize = 0;
     while from <= list.len() {
         let to = octets::find(list, from, b';');
-        case(octets::part(list, from, to));
+        case(rt, octets::part(list, from, to))?;
         from = to + 1;
     }
+    Ok(())
 }
 
-pub(crate) fn numbers() {
+pub(crate) fn numbers(rt: &impl Print) -> io::Result<()> {
     each(
+        rt,
         b"f 0;f 1;f 2;f 256;f 18446744073709551615;v 0;v 1;v 2;v 3;v 4;v 5;v 6;v 256;v 18446744073709551615",
-    );
+    )
 }
 
 // Verbs, lines with octets that are forbidden, AUTH, and lines of so many octets.
-pub(crate) fn commands() {
+pub(crate) fn commands(rt: &impl Print) -> io::Result<()> {
     each(
+        rt,
         b"b EHLO client.example.com|ehlo a|EHLO|EHLO |EHLO  |HELO a|Helo a|HELO|HELO |RSET|rset|RSET |RSET x|QUIT|Quit|QUIT |QUIT x|STARTTLS|CAPA|;\
         b  EHLO a|EHL|EHLOX a|EHLO\ta|RSET\t|AUTH\tPLAIN|MAILX FROM:<a>|USER anna|user|PASS x|pass|APOP a b|apop|USERS|USER\t;\
         b NOOP\x00|NOOP\r|NOOP\n|NOOP\x0c|NOOP\xff|EHLO a\r|AUTH PLAIN\x00|USER a\n|MAIL FROM:<\n>|\x00;\
@@ -82,12 +86,13 @@ pub(crate) fn commands() {
         e s 9 AUTH PLAIN;e p 5 AUTH plain;e s 12 AUTH cram-md5;e p 14 AUTH PLAIN Zm9v;\
         n s 507 AUTH PLAIN ;n s 511 AUTH PLAIN ;n s 510 NOOP ;n s 511 NOOP ;\
         n s 511 MAILX ;n p 251 AUTH PLAIN ;n p 255 AUTH PLAIN ;n p 253 NOOP ;n p 254 NOOP ;n p 254 MAIL FROM:<",
-    );
+    )
 }
 
 // Paths, parameters, identities, and lines of so many octets.
-pub(crate) fn mails() {
+pub(crate) fn mails(rt: &impl Print) -> io::Result<()> {
     each(
+        rt,
         b"l s MAIL FROM:<e=mc2@example.com> AUTH=e+3Dmc2@example.com|MAIL FROM:<john+@example.org> AUTH=<>|\
         MAIL FROM:<alice@example.com> SUBMITTER=alice@example.com|MAIL FROM:<alice@example.com> SUBMITTER=bob@almamater.edu.example;\
         l s MAIL FROM:<alice@example.com> SUBMITTER=alice@mobile.net.example|MAIL FROM:<alice@example.com> SUBMITTER=guest.services@email.hotel.com.example|\
@@ -108,15 +113,16 @@ pub(crate) fn mails() {
         l s MAIL FROM:<a> AUTH=a@b AUTH=a@b|MAIL FROM:<a> AUTH=<> auth=<>|MAIL FROM:<a> SUBMITTER=a@b X submitter=a@b|MAIL FROM:<a> SUBMITTER|\
         MAIL FROM:<a> SUBMITTER=<>|MAIL FROM:<a> SUBMITTER=a|MAIL FROM:<a> AUTH=a@b SUBMITTER=+40a;\
         m s 510;m s 1010;m s 1011;m p 253;m p 254",
-    );
+    )
 }
 
 // Responses in an exchange.
-pub(crate) fn answers() {
+pub(crate) fn answers(rt: &impl Print) -> io::Result<()> {
     each(
+        rt,
         b"r s dGVzdAB0ZXN0ADEyMzQ=|cmpzMyBlYzNhNTlmZWQzOTVhYmExZWM2MzY3YzRmNGI0MWFjMA==||QUIT|RSET|AUTH|Zm9v|Zg==;\
         r p dGVzdAB0ZXN0AHRlc3Q=||QUIT|*|=;\
         r s *|**|* | *|=|Zh==|=AAA|Zm9v Zm9v|AUTH PLAIN|EHLO a|MAIL FROM:<>|Zm9v\x00|Zm9v\r|Zm9\n;\
         a s 12284;a s 12286;a s 12287;a p 12284;a p 12286;a p 12287;h s;h p",
-    );
+    )
 }

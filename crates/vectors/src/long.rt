@@ -1,28 +1,29 @@
 // Lines at the limits, too long to be printed.
 use crate::show;
 use profile::Profile;
+use std::io;
 use textvectors::show::{number, put, quoted};
 
-fn heading(p: Profile, begin: &[u8], size: usize) {
-    show::profile(p);
-    put(b" ");
-    quoted(begin);
-    put(b" and letters, ");
-    number(size);
-    put(b" octets: ");
+fn heading(rt: &impl Print, p: Profile, begin: &[u8], size: usize) -> io::Result<()> {
+    show::profile(rt, p)?;
+    put(rt, b" ")?;
+    quoted(rt, begin)?;
+    put(rt, b" and letters, ")?;
+    number(rt, size)?;
+    put(rt, b" octets: ")
 }
 
-fn command(p: Profile, line: &[u8]) {
-    show::command(lines::command::read_command(p, line));
-    put(b"\n");
+fn command(rt: &impl Print, p: Profile, line: &[u8]) -> io::Result<()> {
+    show::command(rt, lines::command::read_command(p, line))?;
+    put(rt, b"\n")
 }
 
 // A beginning and letters up to so many octets.
-pub(crate) fn line(p: Profile, begin: &[u8], size: usize) {
+pub(crate) fn line(rt: &impl Print, p: Profile, begin: &[u8], size: usize) -> io::Result<()> {
     let mut text = [b'A'; 1024];
     octets::write(begin, &mut text, 0);
-    heading(p, begin, size);
-    command(p, octets::part(&text, 0, size));
+    heading(rt, p, begin, size)?;
+    command(rt, p, octets::part(&text, 0, size))
 }
 
 // A MAIL line whose path ends the line.
@@ -33,32 +34,35 @@ fn put_path(text: &mut [u8], size: usize) {
     }
 }
 
-pub(crate) fn mail(p: Profile, size: usize) {
+pub(crate) fn mail(rt: &impl Print, p: Profile, size: usize) -> io::Result<()> {
     let mut text = [b'A'; 1024];
     put_path(&mut text, size);
-    heading(p, b"MAIL FROM:<", size);
-    command(p, octets::part(&text, 0, size));
+    heading(rt, p, b"MAIL FROM:<", size)?;
+    command(rt, p, octets::part(&text, 0, size))
 }
 
-fn letters(p: Profile, size: usize) {
-    show::profile(p);
-    put(b" response of ");
-    number(size);
-    put(b" letters: ");
+fn letters(rt: &impl Print, p: Profile, size: usize) -> io::Result<()> {
+    show::profile(rt, p)?;
+    put(rt, b" response of ")?;
+    number(rt, size)?;
+    put(rt, b" letters: ")
 }
 
-pub(crate) fn response(p: Profile, size: usize) {
+pub(crate) fn response(rt: &impl Print, p: Profile, size: usize) -> io::Result<()> {
     let text = [b'A'; 12288];
-    letters(p, size);
-    show::response(lines::response::read_response(p, octets::part(&text, 0, size)));
-    put(b"\n");
+    letters(rt, p, size)?;
+    show::response(
+        rt,
+        lines::response::read_response(p, octets::part(&text, 0, size)),
+    )?;
+    put(rt, b"\n")
 }
 
 // A line far over every limit.
-pub(crate) fn huge(p: Profile) {
+pub(crate) fn huge(rt: &impl Print, p: Profile) -> io::Result<()> {
     let text = [b'A'; 100000];
-    letters(p, 100000);
-    show::response(lines::response::read_response(p, &text));
-    put(b", as a command ");
-    command(p, &text);
+    letters(rt, p, 100000)?;
+    show::response(rt, lines::response::read_response(p, &text))?;
+    put(rt, b", as a command ")?;
+    command(rt, p, &text)
 }

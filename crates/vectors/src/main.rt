@@ -10,11 +10,13 @@ mod readings;
 mod reply_cases;
 mod show;
 
-fn main() {
-    textvectors::run();
-    cases::numbers();
-    reply_cases::run();
-    cases::commands();
-    cases::mails();
-    cases::answers();
+use std::io;
+
+fn main(rt: HostRuntime) -> io::Result<()> {
+    textvectors::run(&rt)?;
+    cases::numbers(&rt)?;
+    reply_cases::run(&rt)?;
+    cases::commands(&rt)?;
+    cases::mails(&rt)?;
+    cases::answers(&rt)
 }

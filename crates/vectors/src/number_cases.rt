@@ -2,38 +2,39 @@
 use crate::show;
 use profile::numbers::{ListedVerdict, Verdict};
 use profile::{ListedProfile, Profile};
+use std::io;
 use textvectors::show::{number, put};
 
-fn heading(word: &[u8], n: u64) {
-    put(word);
-    number(n as usize);
-    put(b": ");
+fn heading(rt: &impl Print, word: &[u8], n: u64) -> io::Result<()> {
+    put(rt, word)?;
+    number(rt, n as usize)?;
+    put(rt, b": ")
 }
 
-fn profile_of(n: u64) {
-    heading(b"profile ", n);
+fn profile_of(rt: &impl Print, n: u64) -> io::Result<()> {
+    heading(rt, b"profile ", n)?;
     let l = Profile::of(n);
     match l {
-        ListedProfile::Known(p) => show::profile(p),
-        ListedProfile::Unlisted => put(b"not listed"),
+        ListedProfile::Known(p) => show::profile(rt, p),
+        ListedProfile::Unlisted => put(rt, b"not listed"),
     }
 }
 
-fn verdict_of(n: u64) {
-    heading(b"verdict ", n);
+fn verdict_of(rt: &impl Print, n: u64) -> io::Result<()> {
+    heading(rt, b"verdict ", n)?;
     let l = Verdict::of(n);
     match l {
-        ListedVerdict::Known(v) => show::verdict(v),
-        ListedVerdict::Unlisted => put(b"not listed"),
+        ListedVerdict::Known(v) => show::verdict(rt, v),
+        ListedVerdict::Unlisted => put(rt, b"not listed"),
     }
 }
 
-pub(crate) fn profile_row(n: u64) {
-    profile_of(n);
-    put(b"\n");
+pub(crate) fn profile_row(rt: &impl Print, n: u64) -> io::Result<()> {
+    profile_of(rt, n)?;
+    put(rt, b"\n")
 }
 
-pub(crate) fn verdict_row(n: u64) {
-    verdict_of(n);
-    put(b"\n");
+pub(crate) fn verdict_row(rt: &impl Print, n: u64) -> io::Result<()> {
+    verdict_of(rt, n)?;
+    put(rt, b"\n")
 }

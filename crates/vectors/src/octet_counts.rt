@@ -6,6 +6,7 @@ use lines::auth::Auth;
 use lines::command::Command;
 use mail::Mail;
 use profile::Profile;
+use std::io;
 use textvectors::show::{number, put, quoted};
 
 // 1 where a line was read, 0 where it was not understood or not of its form.
@@ -64,13 +65,13 @@ fn count(p: Profile, line: &[u8], place: usize) -> usize {
     n
 }
 
-pub(crate) fn with_each(p: Profile, line: &[u8], place: usize) {
-    show::profile(p);
-    put(b" ");
-    quoted(line);
-    put(b" with each octet at ");
-    number(place);
-    put(b", read: ");
-    number(count(p, line, place));
-    put(b"\n");
+pub(crate) fn with_each(rt: &impl Print, p: Profile, line: &[u8], place: usize) -> io::Result<()> {
+    show::profile(rt, p)?;
+    put(rt, b" ")?;
+    quoted(rt, line)?;
+    put(rt, b" with each octet at ")?;
+    number(rt, place)?;
+    put(rt, b", read: ")?;
+    number(rt, count(p, line, place))?;
+    put(rt, b"\n")
 }

@@ -5,93 +5,84 @@ use lines::response::Response;
 use mail::Mail;
 use profile::Profile;
 use profile::numbers::Verdict;
+use std::io;
 use textvectors::show::{number, put};
 
-pub(crate) fn profile(p: Profile) {
+pub(crate) fn profile(rt: &impl Print, p: Profile) -> io::Result<()> {
     match p {
-        Profile::Smtp => put(b"smtp"),
-        Profile::Pop3 => put(b"pop3"),
+        Profile::Smtp => put(rt, b"smtp"),
+        Profile::Pop3 => put(rt, b"pop3"),
     }
 }
 
-fn amount(word: &[u8], n: usize) {
-    put(word);
-    number(n);
+fn amount(rt: &impl Print, word: &[u8], n: usize) -> io::Result<()> {
+    put(rt, word)?;
+    number(rt, n)
 }
 
-fn auth(a: Auth) {
+fn auth(rt: &impl Print, a: Auth) -> io::Result<()> {
     match a {
-        Auth::Malformed => {
-            put(b"AUTH malformed");
-        }
-        Auth::Alone { to } => {
-            amount(b"AUTH up to ", to);
-        }
+        Auth::Malformed => put(rt, b"AUTH malformed"),
+        Auth::Alone { to } => amount(rt, b"AUTH up to ", to),
         Auth::Initial { to, from, length } => {
-            amount(b"AUTH up to ", to);
-            amount(b", from ", from);
-            amount(b" length ", length);
+            amount(rt, b"AUTH up to ", to)?;
+            amount(rt, b", from ", from)?;
+            amount(rt, b" length ", length)
         }
     }
 }
 
-fn mail(m: Mail) {
+fn mail(rt: &impl Print, m: Mail) -> io::Result<()> {
     match m {
-        Mail::Malformed => {
-            put(b"MAIL malformed");
-        }
-        Mail::Absent => {
-            put(b"MAIL, no AUTH");
-        }
-        Mail::Null => {
-            put(b"MAIL, AUTH <>");
-        }
+        Mail::Malformed => put(rt, b"MAIL malformed"),
+        Mail::Absent => put(rt, b"MAIL, no AUTH"),
+        Mail::Null => put(rt, b"MAIL, AUTH <>"),
         Mail::Address { from, to, length } => {
-            amount(b"MAIL, AUTH from ", from);
-            amount(b" to ", to);
-            amount(b" length ", length);
+            amount(rt, b"MAIL, AUTH from ", from)?;
+            amount(rt, b" to ", to)?;
+            amount(rt, b" length ", length)
         }
     }
 }
 
 // A verb that was read.
-fn verb(c: Command) {
+fn verb(rt: &impl Print, c: Command) -> io::Result<()> {
     match c {
-        Command::Ehlo => put(b"EHLO"),
-        Command::Helo => put(b"HELO"),
-        Command::Rset => put(b"RSET"),
-        Command::Quit => put(b"QUIT"),
-        _ => put(b"other"),
+        Command::Ehlo => put(rt, b"EHLO"),
+        Command::Helo => put(rt, b"HELO"),
+        Command::Rset => put(rt, b"RSET"),
+        Command::Quit => put(rt, b"QUIT"),
+        _ => put(rt, b"other"),
     }
 }
 
-pub(crate) fn command(c: Command) {
+pub(crate) fn command(rt: &impl Print, c: Command) -> io::Result<()> {
     match c {
-        Command::NotUnderstood => put(b"not understood"),
-        Command::Malformed => put(b"malformed"),
-        Command::Mail(m) => mail(m),
-        Command::Auth(a) => auth(a),
-        Command::Barred => put(b"not permitted"),
-        _ => verb(c),
+        Command::NotUnderstood => put(rt, b"not understood"),
+        Command::Malformed => put(rt, b"malformed"),
+        Command::Mail(m) => mail(rt, m),
+        Command::Auth(a) => auth(rt, a),
+        Command::Barred => put(rt, b"not permitted"),
+        _ => verb(rt, c),
     }
 }
 
-pub(crate) fn response(r: Response) {
+pub(crate) fn response(rt: &impl Print, r: Response) -> io::Result<()> {
     match r {
-        Response::TooLong => put(b"too long"),
-        Response::Cancelled => put(b"cancelled"),
-        Response::Malformed => put(b"malformed"),
-        Response::Length(n) => amount(b"length ", n),
+        Response::TooLong => put(rt, b"too long"),
+        Response::Cancelled => put(rt, b"cancelled"),
+        Response::Malformed => put(rt, b"malformed"),
+        Response::Length(n) => amount(rt, b"length ", n),
     }
 }
 
-pub(crate) fn verdict(v: Verdict) {
+pub(crate) fn verdict(rt: &impl Print, v: Verdict) -> io::Result<()> {
     match v {
-        Verdict::Challenge => put(b"challenge"),
-        Verdict::Success => put(b"success"),
-        Verdict::Rejected => put(b"rejected"),
-        Verdict::Temporary => put(b"temporary"),
-        Verdict::Transition => put(b"transition"),
-        Verdict::Weak => put(b"weak"),
+        Verdict::Challenge => put(rt, b"challenge"),
+        Verdict::Success => put(rt, b"success"),
+        Verdict::Rejected => put(rt, b"rejected"),
+        Verdict::Temporary => put(rt, b"temporary"),
+        Verdict::Transition => put(rt, b"transition"),
+        Verdict::Weak => put(rt, b"weak"),
     }
 }
