@@ -5,12 +5,14 @@ mod dialogues;
 mod run;
 mod show;
 
-fn main() {
-    dialogues::commands();
-    dialogues::checks();
-    dialogues::spellings();
-    dialogues::exchanges();
-    dialogues::verdicts();
-    dialogues::pop3();
-    dialogues::unreached();
+use std::io;
+
+fn main(rt: HostRuntime) -> io::Result<()> {
+    dialogues::commands(&rt)?;
+    dialogues::checks(&rt)?;
+    dialogues::spellings(&rt)?;
+    dialogues::exchanges(&rt)?;
+    dialogues::verdicts(&rt)?;
+    dialogues::pop3(&rt)?;
+    dialogues::unreached(&rt)
 }

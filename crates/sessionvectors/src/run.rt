@@ -13,6 +13,7 @@ use profile::numbers::Verdict;
 use session::Session;
 use session::answer::Answer;
 use session::view::{Offer, View};
+use std::io;
 use textvectors::show::{put, quoted};
 
 #[derive(Clone, Copy)]
@@ -50,9 +51,8 @@ fn offer(view: View, line: &[u8]) -> Offer {
 // A number of at most five digits that a text begins with.
 fn decimal(text: &[u8]) -> usize {
     let mut n: usize = 0;
-    let mut i: usize = 0;
-    while i < text.len() {
-        let x = text[i];
+    for x in text {
+        let x = *x;
         if x < b'0' {
             return n;
         }
@@ -63,7 +63,6 @@ fn decimal(text: &[u8]) -> usize {
             return n;
         }
         n = n * 10 + wide(x - b'0');
-        i += 1;
     }
     n
 }
@@ -75,14 +74,14 @@ fn wide(x: u8) -> usize
 }
 
 impl Run {
-    fn line(mut self, line: &[u8]) -> Run {
+    fn line(mut self, rt: &impl Print, line: &[u8]) -> io::Result<Run> {
         let s = self.session;
         let view = s.read(line);
         let stepped = s.line(view, offer(view, line), self.next);
         let a = stepped.answer;
         let after = stepped.session;
         let p = s.profile;
-        show::answer(a, p, b"", view, line);
+        show::answer(rt, a, p, b"", view, line)?;
         self.session = after;
         match a {
             Answer::Query { ticket, .. } => {
@@ -91,34 +90,41 @@ impl Run {
             }
             _ => {}
         }
-        self
+        Ok(self)
     }
 
-    fn verdict(mut self, ticket: u64, verdict: Verdict, bytes: &[u8]) -> Run {
+    fn verdict(
+        mut self,
+        rt: &impl Print,
+        ticket: u64,
+        verdict: Verdict,
+        bytes: &[u8],
+    ) -> io::Result<Run> {
         let s = self.session;
         let stepped = s.verdict(ticket, verdict, bytes);
         let a = stepped.answer;
         let after = stepped.session;
         let p = s.profile;
-        show::answer(a, p, bytes, View::Unread, b"");
+        show::answer(rt, a, p, bytes, View::Unread, b"")?;
         self.session = after;
-        self
+        Ok(self)
     }
 
-    fn long_line(self, text: &[u8]) -> Run {
+    fn long_line(self, rt: &impl Print, text: &[u8]) -> io::Result<Run> {
         let mut line = [b'A'; 12300];
         octets::write(
             octets::part(text, octets::find(text, 0, b' ') + 1, text.len()),
             &mut line,
             0,
         );
-        self.line(octets::part(&line, 0, decimal(text)))
+        self.line(rt, octets::part(&line, 0, decimal(text)))
     }
 
-    fn long_challenge(self, text: &[u8]) -> Run {
+    fn long_challenge(self, rt: &impl Print, text: &[u8]) -> io::Result<Run> {
         let bytes = [b'A'; 9300];
         let last = self.ticket;
         self.verdict(
+            rt,
             last,
             Verdict::Challenge,
             octets::part(&bytes, 0, decimal(text)),
@@ -126,7 +132,7 @@ impl Run {
     }
 
     // The end of a transaction, and what is set by hand.
-    fn set(mut self, kind: u8) -> Run {
+    fn set(mut self, rt: &impl Print, kind: u8) -> io::Result<Run> {
         let mut s = self.session;
         match kind {
             b'e' => {
@@ -145,51 +151,61 @@ impl Run {
                 self.next = Session::UNISSUED - 1;
             }
             _ => {
-                put(b"not ");
+                put(rt, b"not ")?;
             }
         }
-        put(b"done");
+        put(rt, b"done")?;
         self.session = s;
-        self
+        Ok(self)
     }
 
-    fn event(self, kind: u8, bytes: &[u8]) -> Run {
+    fn event(self, rt: &impl Print, kind: u8, bytes: &[u8]) -> io::Result<Run> {
         let last = self.ticket;
         match kind {
-            b'>' => self.line(bytes),
-            b'#' => self.long_line(bytes),
-            b'c' => self.verdict(last, Verdict::Challenge, bytes),
-            b's' => self.verdict(last, Verdict::Success, bytes),
-            b'r' => self.verdict(last, Verdict::Rejected, bytes),
-            b't' => self.verdict(last, Verdict::Temporary, bytes),
-            b'p' => self.verdict(last, Verdict::Transition, bytes),
-            b'w' => self.verdict(last, Verdict::Weak, bytes),
-            b'C' => self.long_challenge(bytes),
-            b'o' => self.verdict(77, Verdict::Success, bytes),
-            b'b' => self.verdict(std::num::wrapping_sub_u64(last, 1), Verdict::Success, bytes),
-            _ => self.set(kind),
+            b'>' => self.line(rt, bytes),
+            b'#' => self.long_line(rt, bytes),
+            b'c' => self.verdict(rt, last, Verdict::Challenge, bytes),
+            b's' => self.verdict(rt, last, Verdict::Success, bytes),
+            b'r' => self.verdict(rt, last, Verdict::Rejected, bytes),
+            b't' => self.verdict(rt, last, Verdict::Temporary, bytes),
+            b'p' => self.verdict(rt, last, Verdict::Transition, bytes),
+            b'w' => self.verdict(rt, last, Verdict::Weak, bytes),
+            b'C' => self.long_challenge(rt, bytes),
+            b'o' => self.verdict(rt, 77, Verdict::Success, bytes),
+            b'b' => self.verdict(
+                rt,
+                std::num::wrapping_sub_u64(last, 1),
+                Verdict::Success,
+                bytes,
+            ),
+            _ => self.set(rt, kind),
         }
     }
 
-    fn row(self, text: &[u8]) -> Run {
+    fn row(self, rt: &impl Print, text: &[u8]) -> io::Result<Run> {
         if text.len() < 1 {
-            return self;
+            return Ok(self);
         }
         let kind = text[0];
         let s = self.session;
         let p = s.profile;
-        show::profile(p);
-        quoted(text);
-        put(b": ");
-        let next = self.event(kind, octets::part(text, 1, text.len()));
-        show::stands(next.session);
-        next
+        show::profile(rt, p)?;
+        quoted(rt, text)?;
+        put(rt, b": ")?;
+        let next = self.event(rt, kind, octets::part(text, 1, text.len()))?;
+        show::stands(rt, next.session)?;
+        Ok(next)
     }
 }
 
 // A connection of its own for each dialogue.
-pub(crate) fn dialogue(p: Profile, protected: bool, events: &[u8]) {
-    put(b"\n");
+pub(crate) fn dialogue(
+    rt: &impl Print,
+    p: Profile,
+    protected: bool,
+    events: &[u8],
+) -> io::Result<()> {
+    put(rt, b"\n")?;
     let mut run = Run {
         session: Session::opened(p, protected),
         ticket: 0,
@@ -198,7 +214,8 @@ pub(crate) fn dialogue(p: Profile, protected: bool, events: &[u8]) {
     let mut from: usize = 0;
     while from <= events.len() {
         let to = octets::find(events, from, b'|');
-        run = run.row(octets::part(events, from, to));
+        run = run.row(rt, octets::part(events, from, to))?;
         from = to + 1;
     }
+    Ok(())
 }

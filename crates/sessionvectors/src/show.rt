@@ -1,165 +1,173 @@
 // Printing of what a step gives and how the session stands after it.
-use libc::STDOUT_FILENO;
 use octets::{Decoded, Encoded};
 use profile::Profile;
 use profile::numbers::Identity;
 use session::answer::Answer;
 use session::view::View;
 use session::{Phase, Session};
+use std::io;
 use textvectors::show::{put, quoted};
 
-pub(crate) fn number(n: u64) {
-    io::print_decimal(STDOUT_FILENO, n);
+pub(crate) fn number(rt: &impl Print, n: u64) -> io::Result<()> {
+    print!(rt; "{n}")
 }
 
-pub(crate) fn profile(p: Profile) {
+pub(crate) fn profile(rt: &impl Print, p: Profile) -> io::Result<()> {
     match p {
-        Profile::Smtp => put(b"smtp "),
-        Profile::Pop3 => put(b"pop3 "),
+        Profile::Smtp => put(rt, b"smtp "),
+        Profile::Pop3 => put(rt, b"pop3 "),
     }
 }
 
 // Octets, or how many they are where they are more than a row holds.
-fn octets_of(bytes: &[u8]) {
+fn octets_of(rt: &impl Print, bytes: &[u8]) -> io::Result<()> {
     if bytes.len() <= 100 {
-        quoted(bytes);
+        quoted(rt, bytes)
     } else {
-        number(bytes.len() as u64);
-        put(b" octets");
+        number(rt, bytes.len() as u64)?;
+        put(rt, b" octets")
     }
 }
 
-fn decoded(d: Decoded, out: &[u8]) {
+fn decoded(rt: &impl Print, d: Decoded, out: &[u8]) -> io::Result<()> {
     match d {
-        Decoded::Length(n) => octets_of(octets::part(out, 0, n)),
-        Decoded::Malformed => put(b"malformed"),
-        Decoded::Short => put(b"short"),
+        Decoded::Length(n) => octets_of(rt, octets::part(out, 0, n)),
+        Decoded::Malformed => put(rt, b"malformed"),
+        Decoded::Short => put(rt, b"short"),
     }
 }
 
-fn encoded(e: Encoded, out: &[u8]) {
+fn encoded(rt: &impl Print, e: Encoded, out: &[u8]) -> io::Result<()> {
     match e {
-        Encoded::End(n) => octets_of(octets::part(out, 0, n)),
-        Encoded::Short => put(b"short"),
+        Encoded::End(n) => octets_of(rt, octets::part(out, 0, n)),
+        Encoded::Short => put(rt, b"short"),
     }
 }
 
 // The octets of a line that a query or a MAIL hands on.
-fn response(view: View, line: &[u8]) {
+fn response(rt: &impl Print, view: View, line: &[u8]) -> io::Result<()> {
     let mut out = [0u8; 9213];
-    put(b" ");
+    put(rt, b" ")?;
     let d = view.decode_response(line, &mut out);
-    decoded(d, &out);
+    decoded(rt, d, &out)?;
     let mut unchecked = [0u8; 9213];
     view.decode_response_unchecked(line, &mut unchecked);
     if !octets::same(&out, &unchecked) {
-        put(b", unchecked others");
+        put(rt, b", unchecked others")?;
     }
+    Ok(())
 }
 
-fn address(view: View, line: &[u8]) {
+fn address(rt: &impl Print, view: View, line: &[u8]) -> io::Result<()> {
     let mut out = [0u8; 9213];
-    put(b" ");
+    put(rt, b" ")?;
     let d = view.decode_address(line, &mut out);
-    decoded(d, &out);
+    decoded(rt, d, &out)
 }
 
-fn identity(i: Identity, view: View, line: &[u8]) {
+fn identity(rt: &impl Print, i: Identity, view: View, line: &[u8]) -> io::Result<()> {
     match i {
-        Identity::NoMail => put(b"forward"),
-        Identity::Null => put(b"forward <>"),
-        Identity::Absent => put(b"forward none"),
+        Identity::NoMail => put(rt, b"forward"),
+        Identity::Null => put(rt, b"forward <>"),
+        Identity::Absent => put(rt, b"forward none"),
         Identity::Address => {
-            put(b"forward address");
-            address(view, line);
+            put(rt, b"forward address")?;
+            address(rt, view, line)
         }
     }
 }
 
 // Every number of an answer.
-fn numbers(a: Answer, heard: usize) {
+fn numbers(rt: &impl Print, a: Answer, heard: usize) -> io::Result<()> {
     let n = a.numbers(heard);
-    put(b" (");
-    number(n.refusal);
-    put(b" ");
-    number(n.kind);
-    put(b" ");
-    number(n.ticket);
-    put(b" ");
-    number(n.starts);
-    put(b" ");
-    number(n.length);
-    put(b" ");
-    number(n.identity);
-    put(b")");
+    put(rt, b" (")?;
+    number(rt, n.refusal)?;
+    put(rt, b" ")?;
+    number(rt, n.kind)?;
+    put(rt, b" ")?;
+    number(rt, n.ticket)?;
+    put(rt, b" ")?;
+    number(rt, n.starts)?;
+    put(rt, b" ")?;
+    number(rt, n.length)?;
+    put(rt, b" ")?;
+    number(rt, n.identity)?;
+    put(rt, b")")
 }
 
-fn heard(a: Answer, p: Profile, bytes: &[u8]) {
+fn heard(rt: &impl Print, a: Answer, p: Profile, bytes: &[u8]) -> io::Result<()> {
     let mut out = [0u8; 12288];
     let e = a.say(p, bytes, &mut out);
-    encoded(e, &out);
+    encoded(rt, e, &out)?;
     match e {
-        Encoded::End(n) => numbers(a, n),
-        Encoded::Short => {}
+        Encoded::End(n) => numbers(rt, a, n),
+        Encoded::Short => Ok(())
     }
 }
 
 // An answer to a line, or to a verdict with these octets.
-pub(crate) fn answer(a: Answer, p: Profile, bytes: &[u8], view: View, line: &[u8]) {
+pub(crate) fn answer(
+    rt: &impl Print,
+    a: Answer,
+    p: Profile,
+    bytes: &[u8],
+    view: View,
+    line: &[u8],
+) -> io::Result<()> {
     match a {
         Answer::Refused(_) => {
-            put(b"refused");
-            numbers(a, 0);
+            put(rt, b"refused")?;
+            numbers(rt, a, 0)
         }
         Answer::Forward { identity: i, .. } => {
-            identity(i, view, line);
-            numbers(a, 0);
+            identity(rt, i, view, line)?;
+            numbers(rt, a, 0)
         }
         Answer::Query { .. } => {
-            put(b"query");
-            response(view, line);
-            numbers(a, 0);
+            put(rt, b"query")?;
+            response(rt, view, line)?;
+            numbers(rt, a, 0)
         }
-        Answer::Reply(_) => heard(a, p, bytes),
-        Answer::EmptyChallenge => heard(a, p, bytes),
-        Answer::Challenge => heard(a, p, bytes),
+        Answer::Reply(_) => heard(rt, a, p, bytes),
+        Answer::EmptyChallenge => heard(rt, a, p, bytes),
+        Answer::Challenge => heard(rt, a, p, bytes),
     }
 }
 
-fn name(s: Session) {
+fn name(rt: &impl Print, s: Session) -> io::Result<()> {
     let mut out = [0u8; 64];
     let e = s.write_name(&mut out);
-    encoded(e, &out);
+    encoded(rt, e, &out)
 }
 
-fn phase(s: Session) {
+fn phase(rt: &impl Print, s: Session) -> io::Result<()> {
     let at = s.phase;
     match at {
-        Phase::Idle => put(b"; idle"),
+        Phase::Idle => put(rt, b"; idle"),
         Phase::SignedIn => {
-            put(b"; ");
-            name(s);
+            put(rt, b"; ")?;
+            name(rt, s)
         }
         Phase::Awaiting { sent } => {
-            put(b"; awaiting ");
-            number(sent as u64);
+            put(rt, b"; awaiting ")?;
+            number(rt, sent as u64)
         }
         Phase::Waiting { ticket, sent } => {
-            put(b"; waiting ");
-            number(ticket);
-            put(b" ");
-            number(sent as u64);
+            put(rt, b"; waiting ")?;
+            number(rt, ticket)?;
+            put(rt, b" ")?;
+            number(rt, sent as u64)
         }
     }
 }
 
-pub(crate) fn stands(s: Session) {
-    phase(s);
+pub(crate) fn stands(rt: &impl Print, s: Session) -> io::Result<()> {
+    phase(rt, s)?;
     if s.greeted {
-        put(b", greeted");
+        put(rt, b", greeted")?;
     }
     if s.transaction {
-        put(b", transaction");
+        put(rt, b", transaction")?;
     }
-    put(b"\n");
+    put(rt, b"\n")
 }
