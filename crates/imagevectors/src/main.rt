@@ -3,17 +3,21 @@
 #![tactic(auto)]
 
 use image::OCTETS;
-use libc::STDIN_FILENO;
+use std::io;
+use std::io::Read;
 
 mod connections;
 mod rows;
 mod show;
 mod sweep;
 
-fn main() {
-    let mut text = io::large_buffer();
+// So many octets of the input are read.
+const MOST: u64 = 65536;
+
+fn main(rt: HostRuntime) -> io::Result<()> {
+    let mut text = Vec::new(rt.alloc());
     let mut buffer = [0u8; OCTETS + 1];
     let mut kept = [0u8; 3 * (OCTETS + 1)];
-    let end = io::read_full(STDIN_FILENO, &mut text);
-    rows::run(octets::part(&text, 0, end), &mut buffer, &mut kept);
+    rt.reader().take(MOST).read_to_end(&mut text)?;
+    rows::run(&rt, text.as_slice(), &mut buffer, &mut kept)
 }

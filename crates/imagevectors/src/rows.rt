@@ -35,14 +35,13 @@ use crate::{show, sweep};
 use image::{Found, OCTETS};
 use octets::Decoded;
 use server::{Header, Mechanism};
+use std::io;
 use textvectors::show::{put, quoted};
 use textvectors::words::{index, number, octet, rest, word};
 
 fn fill(image: &mut [u8], x: u8) {
-    let mut i: usize = 0;
-    while i < image.len() {
-        image[i] = x;
-        i += 1;
+    for y in image {
+        *y = x;
     }
 }
 
@@ -78,36 +77,37 @@ fn bring(image: &mut [u8], kept: &[u8], at: usize) {
     octets::write(octets::part(kept, at, to), image, 0);
 }
 
-fn tested(text: &[u8], image: &[u8]) {
-    put(text);
-    show::taken(image);
+fn tested(rt: &impl Print, text: &[u8], image: &[u8]) -> io::Result<()> {
+    put(rt, text)?;
+    show::taken(rt, image)
 }
 
-fn changed(text: &[u8], image: &[u8], kept: &mut [u8]) {
-    tested(text, image);
-    show::changes(kept, image);
+fn changed(rt: &impl Print, text: &[u8], image: &[u8], kept: &mut [u8]) -> io::Result<()> {
+    tested(rt, text, image)?;
+    show::changes(rt, kept, image)?;
     octets::write(image, kept, 0);
+    Ok(())
 }
 
 // An image with other octets at an offset.
-fn damaged(image: &[u8], at: usize, bytes: &[u8]) {
+fn damaged(rt: &impl Print, image: &[u8], at: usize, bytes: &[u8]) -> io::Result<()> {
     let mut other = [0u8; OCTETS];
     octets::write(image, &mut other, 0);
     octets::write(bytes, &mut other, at);
-    show::amount(b", ", at as u64);
-    put(b" ");
-    quoted(bytes);
-    show::taken(&other);
+    show::amount(rt, b", ", at as u64)?;
+    put(rt, b" ")?;
+    quoted(rt, bytes)?;
+    show::taken(rt, &other)
 }
 
-fn damage(text: &[u8], image: &[u8]) {
+fn damage(rt: &impl Print, text: &[u8], image: &[u8]) -> io::Result<()> {
     let mut bytes = [0u8; 87];
     let at = std::num::wrapping_add_usize(index(text, 0), index(text, 1));
-    put(rest(text, 3));
+    put(rt, rest(text, 3))?;
     let d = xtext::decode(word(text, 2), &mut bytes);
     match d {
-        Decoded::Length(n) => damaged(image, at, octets::part(&bytes, 0, n)),
-        _ => put(b": not read"),
+        Decoded::Length(n) => damaged(rt, image, at, octets::part(&bytes, 0, n)),
+        _ => put(rt, b": not read"),
     }
 }
 
@@ -120,40 +120,44 @@ fn find(kind: u8, n: u64, image: &[u8]) -> Found {
 }
 
 // What is read of the image, n being the text's number.
-fn read(kind: u8, text: &[u8], n: u64, image: &[u8]) {
+fn read(rt: &impl Print, kind: u8, text: &[u8], n: u64, image: &[u8]) -> io::Result<()> {
     match kind {
-        b'h' => show::header(image),
-        b'm' => show::count(image),
-        b'o' => show::offer(image, octets::part(text, 7, octets::find(text, 7, b'"'))),
-        b's' => show::connection(image, n as usize),
-        b'~' => sweep::run(image, n as usize, index(text, 3)),
-        _ => put(b": not done"),
+        b'h' => show::header(rt, image),
+        b'm' => show::count(rt, image),
+        b'o' => show::offer(
+            rt,
+            image,
+            octets::part(text, 7, octets::find(text, 7, b'"')),
+        ),
+        b's' => show::connection(rt, image, n as usize),
+        b'~' => sweep::run(rt, image, n as usize, index(text, 3)),
+        _ => put(rt, b": not done"),
     }
 }
 
-fn answer(kind: u8, text: &[u8], image: &[u8]) {
+fn answer(rt: &impl Print, kind: u8, text: &[u8], image: &[u8]) -> io::Result<()> {
     let n = number(text, 1);
-    put(text);
+    put(rt, text)?;
     match kind {
-        b'"' => {}
-        b'.' => show::taken(image),
-        b'c' | b't' | b'f' => show::found(find(kind, n, image)),
-        _ => read(kind, text, n, image),
+        b'"' => Ok(()),
+        b'.' => show::taken(rt, image),
+        b'c' | b't' | b'f' => show::found(rt, find(kind, n, image)),
+        _ => read(rt, kind, text, n, image),
     }
 }
 
 // A row that prints, and the end of its line.
-fn told(kind: u8, text: &[u8], image: &[u8]) {
+fn told(rt: &impl Print, kind: u8, text: &[u8], image: &[u8]) -> io::Result<()> {
     match kind {
-        b'@' => damage(text, image),
-        b'r' => show::record(image, index(text, 0)),
-        _ => answer(kind, text, image),
+        b'@' => damage(rt, text, image)?,
+        b'r' => show::record(rt, image, index(text, 0))?,
+        _ => answer(rt, kind, text, image)?,
     }
-    put(b"\n");
+    put(rt, b"\n")
 }
 
 // Writes the image; a row that only looks at it prints.
-fn on_image(kind: u8, text: &[u8], image: &mut [u8]) {
+fn on_image(rt: &impl Print, kind: u8, text: &[u8], image: &mut [u8]) -> io::Result<()> {
     let n = number(text, 0);
     match kind {
         0 | b'#' => {}
@@ -163,41 +167,61 @@ fn on_image(kind: u8, text: &[u8], image: &mut [u8]) {
         b'A' => add(text, image),
         b'S' => hold(text, image),
         b'F' => image::free_slot(image, n as usize),
-        b',' => tested(text, image),
-        _ => told(kind, text, image),
+        b',' => tested(rt, text, image)?,
+        _ => told(rt, kind, text, image)?,
     }
+    Ok(())
 }
 
-fn event(kind: u8, text: &[u8], image: &mut [u8], kept: &mut [u8]) {
+fn event(
+    rt: &impl Print,
+    kind: u8,
+    text: &[u8],
+    image: &mut [u8],
+    kept: &mut [u8],
+) -> io::Result<()> {
     match kind {
         b'K' => keep(image, kept, place(text)),
         b'R' => bring(image, kept, place(text)),
-        b'>' => changed(text, image, kept),
-        _ => on_image(kind, text, image),
+        b'>' => changed(rt, text, image, kept)?,
+        _ => on_image(rt, kind, text, image)?,
     }
+    Ok(())
 }
 
 // A row on the first n octets of the buffer. Gives how many the next row is on.
-fn row(line: &[u8], n: usize, buffer: &mut [u8], kept: &mut [u8]) -> usize {
+fn row(
+    rt: &impl Print,
+    line: &[u8],
+    n: usize,
+    buffer: &mut [u8],
+    kept: &mut [u8],
+) -> io::Result<usize> {
     let kind = octet(line, 0);
     let text = octets::part(line, 2, line.len());
     if kind == b'N' {
-        return index(text, 0);
+        return Ok(index(text, 0));
     }
     if n <= buffer.len() {
-        event(kind, text, &mut buffer[..n], kept);
+        event(rt, kind, text, &mut buffer[..n], kept)?;
     } else {
-        put(b"not done\n");
+        put(rt, b"not done\n")?;
     }
-    n
+    Ok(n)
 }
 
-pub(crate) fn run(text: &[u8], buffer: &mut [u8], kept: &mut [u8]) {
+pub(crate) fn run(
+    rt: &impl Print,
+    text: &[u8],
+    buffer: &mut [u8],
+    kept: &mut [u8],
+) -> io::Result<()> {
     let mut n = OCTETS;
     let mut from: usize = 0;
     while from < text.len() {
         let to = octets::find(text, from, b'\n');
-        n = row(octets::part(text, from, to), n, buffer, kept);
+        n = row(rt, octets::part(text, from, to), n, buffer, kept)?;
         from = to + 1;
     }
+    Ok(())
 }

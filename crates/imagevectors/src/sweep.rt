@@ -1,6 +1,7 @@
 // An image with one bit turned, for each octet: how many of these images are taken, and the sum of their offsets modulo 65536.
 use crate::show::amount;
 use image::OCTETS;
+use std::io;
 
 // Turns bit i modulo 8 of octet i.
 fn turn(image: &mut [u8], i: usize) {
@@ -17,17 +18,15 @@ fn is_taken_with(image: &[u8], i: usize) -> bool {
     image::is_taken(&other)
 }
 
-pub(crate) fn run(image: &[u8], from: usize, to: usize) {
+pub(crate) fn run(rt: &impl Print, image: &[u8], from: usize, to: usize) -> io::Result<()> {
     let mut count: u64 = 0;
     let mut sum: u64 = 0;
-    let mut i = from;
-    while i < to {
+    for i in from..to {
         if is_taken_with(image, i) {
             count = std::num::wrapping_add_u64(count, 1);
             sum = std::num::wrapping_add_u64(sum, i as u64);
         }
-        i += 1;
     }
-    amount(b": taken ", count);
-    amount(b", sum ", sum % 65536);
+    amount(rt, b": taken ", count)?;
+    amount(rt, b", sum ", sum % 65536)
 }
