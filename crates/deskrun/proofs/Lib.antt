@@ -1,4 +1,3 @@
--- Laws that the proofs of deskrun cite; Laws: what holds of a script line of any length.
-mod Indices
+-- Laws of deskrun. Laws: what holds of a script line of any length.
 pub mod Long
 pub mod Laws

@@ -1,8 +1,9 @@
 // Runs a script of calls on standard input against a desk of its own, and prints a line for each (docs/DESKRUN.md).
 #![tactic(auto)]
 
-use libc::STDIN_FILENO;
 use script::kept::Kept;
+use std::io;
+use std::io::Read;
 
 mod call;
 mod input;
@@ -13,12 +14,15 @@ mod transcript;
 // wherever a call takes one, whatever it holds.
 const KEPT: usize = 32768;
 
-fn main() {
+// So many octets are read, and are written, at a time.
+const BLOCK: usize = 65536;
+
+fn main(rt: HostRuntime) -> io::Result<()> {
     let mut image = [0u8; image::OCTETS];
     let mut line = [0u8; KEPT];
-    let mut out = io::large_buffer();
+    let mut out = [0u8; BLOCK];
     make(&mut image);
-    read_script(&mut image, &mut line, &mut out);
+    read_script(&rt, &mut image, &mut line, &mut out)
 }
 
 // Document 01's desk: "PLAIN client-first and protected, CRAM-MD5 server-first; numbers from 1".
@@ -36,33 +40,43 @@ struct Left {
 }
 
 // Block after block to the end of the input. Nothing shows that it ends, so the blocks are counted.
-fn read_script(image: &mut [u8], line: &mut [u8], out: &mut [u8]) {
-    let mut left = Left {
-        goes_on: true,
-        kept: Kept::started(),
-    };
-    let mut blocks: u64 = 18446744073709551615;
-    while left.goes_on & (0 < blocks) {
-        let kept = left.kept;
-        left = read_block(image, line, kept, out);
-        blocks -= 1;
+fn read_script(
+    rt: &(impl Input + Print),
+    image: &mut [u8],
+    line: &mut [u8],
+    out: &mut [u8],
+) -> io::Result<()> {
+    let mut reader = rt.reader();
+    let mut kept = Kept::started();
+    for _ in 0..u64::MAX {
+        let left = read_block(rt, &mut reader, image, line, kept, out)?;
+        kept = left.kept;
+        if !left.goes_on {
+            break;
+        }
     }
-    let kept = left.kept;
-    input::run_last(image, line, kept, out);
+    input::run_last(rt, image, line, kept, out)
 }
 
 // A read that fails ends the script, as the end of the input does.
-fn read_block(image: &mut [u8], line: &mut [u8], kept: Kept, out: &mut [u8]) -> Left {
-    let mut block = io::large_buffer();
-    let n = io::count(libc::read(STDIN_FILENO, &mut block), &block);
+fn read_block(
+    rt: &impl Print,
+    reader: &mut impl Read,
+    image: &mut [u8],
+    line: &mut [u8],
+    kept: Kept,
+    out: &mut [u8],
+) -> io::Result<Left> {
+    let mut block = [0u8; BLOCK];
+    let n = reader.read(&mut block).unwrap_or(0);
     if n == 0 {
-        return Left {
+        return Ok(Left {
             goes_on: false,
             kept,
-        };
+        });
     }
-    Left {
+    Ok(Left {
         goes_on: true,
-        kept: input::run_block(image, line, kept, &block[..n], out),
-    }
+        kept: input::run_block(rt, image, line, kept, &block[..n], out)?,
+    })
 }

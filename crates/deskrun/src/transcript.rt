@@ -4,27 +4,28 @@ ghost use Rattle.octets.specs.Answers.{written};
 ghost use Rattle.deskrun.specs.Transcript.{index_after, after};
 
 use crate::row::Row;
-use libc::STDOUT_FILENO;
+use itoa::Buffer;
 use octets::Encoded;
+use std::io;
 
 // A line of a transcript is shorter: the longest is a reply of 12,288 octets with a word before it.
 const LONGEST: usize = 16384;
 
 // Writes what out has before an index to standard output.
-pub(crate) fn flush(out: &[u8], at: usize) {
-    io::write_all(STDOUT_FILENO, octets::part(out, 0, at));
+pub(crate) fn flush(rt: &impl Print, out: &[u8], at: usize) -> io::Result<()> {
+    rt.write_all(octets::part(out, 0, at))
 }
 
 // An index from which on out has room for any line of a transcript.
-pub(crate) fn with_room(out: &[u8], at: usize) -> usize {
+pub(crate) fn with_room(rt: &impl Print, out: &[u8], at: usize) -> io::Result<usize> {
     if out.len() < LONGEST {
-        return at;
+        return Ok(at);
     }
     if at <= out.len() - LONGEST {
-        return at;
+        return Ok(at);
     }
-    flush(out, at);
-    0
+    flush(rt, out, at)?;
+    Ok(0)
 }
 
 // A text.
@@ -46,9 +47,8 @@ fn index_after(e: Encoded, at: usize) -> usize
 }
 
 fn number(out: &mut [u8], at: usize, n: u64) -> usize {
-    let mut digits = [0u8; 20];
-    let k = io::decimal(n, &mut digits);
-    put(out, at, &digits[..k])
+    let mut digits = Buffer::new();
+    put(out, at, digits.format(n).as_bytes())
 }
 
 // A line: a word.
