@@ -21,6 +21,8 @@ pub use Rattle.base64text.proofs.RoundTrip.{valid-encode, octets-encode, encode-
 pub use Rattle.base64text.proofs.Quads.{length-encode}
 -- a text that is base64 may be decoded without a look at its form
 pub use Rattle.base64text.proofs.Turns.{unchecked-octets, unchecked-decoded}
+-- the octets from an index on: those of the group there, then those from the next one on
+pub use Rattle.base64text.proofs.Turns.{octets-turn, octets-end}
 
 -- what a text decodes to are octets
 pub octets-octets : (t : List ℕ) → Octets (octets t)

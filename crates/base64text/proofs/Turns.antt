@@ -203,3 +203,20 @@ unchecked-octets (a ∷ b ∷ c ∷ d ∷ e ∷ r) h =
 
 pub unchecked-decoded : (t o : List ℕ) → valid t ≡ true → unchecked_into t o ≡ decoded_into t o
 unchecked-decoded t o h = rw (h, unchecked-octets t h)
+
+-- the octets from an index on: those of the group there, then those of the rest; none where there are no four octets
+short-octets : (t : List ℕ) → length t < 4 → octets t ≡ []
+unfolding octets
+short-octets [] h = refl
+short-octets (a ∷ []) h = refl
+short-octets (a ∷ b ∷ []) h = refl
+short-octets (a ∷ b ∷ c ∷ []) h = refl
+short-octets (a ∷ b ∷ c ∷ d ∷ r) h = absurd (omega arith)
+
+module _ (t : List ℕ) (i : ℕ) where
+  pub octets-turn : i + 4 ≤ length t → octets (drop i t) ≡ octets_of (group_at t i) ++ octets (drop (i + 4) t)
+  unfolding octets
+  octets-turn h = rw (drop-four t i h)
+
+  pub octets-end : length t < i + 4 → octets (drop i t) ≡ []
+  octets-end h = short-octets (drop i t) (simp length-drop (omega arith))

@@ -100,6 +100,14 @@ two w = Two (octet1 w) (octet2 w)
 abbrev pub one : ℕ → Group
 one w = One (octet1 w)
 
+-- by their numbers and the last two of them
+abbrev pub grouped : ℕ → ℕ → ℕ → ℕ → ℕ → ℕ → Group
+grouped p q r s c d =
+    cond (letters p q r s) (three (joined p q r s))
+    (cond (letters3 p q r d) (two (joined p q r 0))
+    (cond (letters2 p q c d) (one (joined p q 0 0))
+    Bad))
+
 unfoldable pub group_of : ℕ → ℕ → ℕ → ℕ → Group
 group_of a b c d =
     cond (letters (value a) (value b) (value c) (value d)) (three (joined (value a) (value b) (value c) (value d)))

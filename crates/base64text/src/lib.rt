@@ -6,6 +6,7 @@ ghost use Rattle.std.proofs.lemmas.List.Edits.{sets};
 ghost use Rattle.std.proofs.Math.Seq.{slice};
 ghost use Rattle.octets.specs.Answers.{written};
 ghost use Rattle.base64text.specs.Base64.{alphabet, letter, value, bits, quad1, quad2, quad3, encode, joined, letters, letters3, letters2, three, two, one, group_of, octets_of, unchecked, measured, decoded, decoded_into, unchecked_into, encoded};
+ghost use Rattle.base64text.specs.Base64.{grouped};
 ghost use Rattle.base64text.specs.Private.{values, number_range, group_at, letters_at, three_at, last};
 
 pub mod reader;
@@ -90,8 +91,8 @@ pub fn encode(bytes: &[u8], out: &mut [u8], at: usize) -> Encoded
 }
 
 // The numbers of all octets, from the alphabet's five ranges: A-Z, a-z, 0-9, "+", "/". An octet in none of them has 64. An array is made anew on the
-// stack wherever it is written, so each public function makes the table once and lends it to the others.
-fn values() -> [u8; 256]
+// stack wherever it is written, so whoever reads a text makes the table once and lends it to the others.
+pub fn values() -> [u8; 256]
     ensures { result ≡ values }
 {
     let k: [u8; 256] = [64; 256];
@@ -177,15 +178,10 @@ fn letters2(p: u8, q: u8, c: u8, d: u8) -> bool
     (p < 64) & (q < 64) & (c == b'=') & (d == b'=') & (w % 65536 == 0)
 }
 
-// What four octets of text stand for.
-fn group_of(k: &[u8; 256], a: u8, b: u8, c: u8, d: u8) -> Group
-    requires { k.now ≡ values }
-    ensures { result ≡ group_of a b c d }
+// What four octets of text stand for, by their numbers p q r s; c and d are the last two of them.
+pub fn grouped(p: u8, q: u8, r: u8, s: u8, c: u8, d: u8) -> Group
+    ensures { result ≡ grouped p q r s c d }
 {
-    let p = value(k, a);
-    let q = value(k, b);
-    let r = value(k, c);
-    let s = value(k, d);
     if letters(p, q, r, s) {
         return three(joined(p, q, r, s));
     }
@@ -196,6 +192,14 @@ fn group_of(k: &[u8; 256], a: u8, b: u8, c: u8, d: u8) -> Group
         return one(joined(p, q, 0, 0));
     }
     Group::Bad
+}
+
+// By themselves.
+fn group_of(k: &[u8; 256], a: u8, b: u8, c: u8, d: u8) -> Group
+    requires { k.now ≡ values }
+    ensures { result ≡ group_of a b c d }
+{
+    grouped(value(k, a), value(k, b), value(k, c), value(k, d), c, d)
 }
 
 // The group at index i.
