@@ -1,5 +1,5 @@
 -- Octets pass the test exactly where they are of the grammar. Assumes nothing.
-use mathlib.Core.Path.{◌≡◌, refl, sym, ◌∙◌, ap}
+use mathlib.Core.Path.{◌≡◌, refl, sym, ◌∙◌}
 use mathlib.Core.Bool.{Bool, true, false, cond, ◌&&◌, false≢true}
 use mathlib.Core.List.{List, [], ◌∷◌, ◌++◌}
 use Prim.Native.Nat.{ℕ, zero, suc, ◌-◌, ◌<◌, ◌≤◌}
@@ -11,7 +11,7 @@ use Rattle.octets.specs.Lists.{holds}
 use Rattle.octets.proofs.Cases.{both}
 use Rattle.plain.specs.declared.utf8.Need.{Need}
 use Rattle.plain.specs.Utf8.{In, Tail, Safe, utf1, utf2, utf3_E0, utf3_E1, utf3_ED, utf3_EE, utf4_F0, utf4_F1, utf4_F4, Safes, none, more}
-use Rattle.plain.specs.Utf8.{within, need, tails, broken, lead, follow, safe_from, safe}
+use Rattle.plain.specs.Utf8.{within, need, tails, broken, lead, safe_from, safe}
 
 -- a range and its test
 module _ (lo hi x : ℕ) where
@@ -121,13 +121,6 @@ module _ (x : ℕ) where
         p 0xF1 0xF3 (omega arith),
         in_within 0xF4 0xF4 x h,
       )
-
-  -- one that is in no row
-  pub lead-none : within 0x01 0x7F x ≡ false → within 0xC2 0xDF x ≡ false → within 0xE0 0xE0 x ≡ false → within 0xE1 0xEC x ≡ false
-      → within 0xED 0xED x ≡ false → within 0xEE 0xEF x ≡ false → within 0xF0 0xF0 x ≡ false → within 0xF1 0xF3 x ≡ false → within 0xF4 0xF4 x ≡ false
-      → lead x ≡ broken
-  unfolding lead
-  lead-none a b c d e f g h i = rw (a, b, c, d, e, f, g, h, i)
 
 -- and back: the row of a first octet
 pub data Row (x : ℕ) : Need → Type 0 where

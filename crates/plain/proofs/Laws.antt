@@ -2,10 +2,10 @@
 use mathlib.Core.Path.{◌≡◌, refl, sym, ◌∙◌, ap}
 use mathlib.Core.Bool.{Bool, true, false, cond, not, ◌&&◌, ◌||◌, false≢true}
 use mathlib.Core.List.{List, [], ◌∷◌, ◌++◌}
-use Prim.Native.Nat.{ℕ, suc, ◌+◌, ◌-◌, ◌<◌, ◌≤◌}
+use Prim.Native.Nat.{ℕ, ◌+◌, ◌≤◌}
 use native.Mathlib.Nat.{zero-add}
 use native.Mathlib.Omega.{arith}
-use borrow.Author.Tests.{eqb-true, ne_eqb, not-true, le-leb, lt-leb, leb-true, leb-false}
+use borrow.Author.Tests.{eqb-true, not-true, leb-true}
 use lib.Dec.{leb, eqb}
 use lib.ListN.{length, take, length-append}
 use lib.Seq.{take-append_seam}
@@ -17,7 +17,7 @@ use Rattle.octets.specs.Lists.{is_empty, holds, before, after}
 use Rattle.octets.proofs.Cases.{both}
 use Rattle.octets.proofs.Words.{before-cut, after-cut, holds-cut}
 use Rattle.plain.specs.declared.Fields.TheVariants.{Lengths, Malformed}
-use Rattle.plain.specs.Utf8.{Safes, safe}
+use Rattle.plain.specs.Utf8.{safe}
 use Rattle.plain.specs.Message.{joined, Message, fit, authzid_in, authcid_in, password_in, well_formed, fields, writing, written_into}
 use Rattle.plain.proofs.Grammar.{safe-grammar, grammar-safe, safe-no_nul}
 
@@ -117,23 +117,6 @@ lengths-sum m a c p e = let r = lengths_read m a c p e in omega (arith, message-
 pub grammar-message : (a c p : List ℕ) → Message a c p → fields (joined a c p) ≡ Lengths (length a) (length c) (length p)
 grammar-message a c p m = fields-joined a c p (grammar-fit a c p m)
 
--- room for three fields and two NUL, of which each is taken away from what is left
-module _ (a c p m : ℕ) where
-  room : a ≤ m → c ≤ m - a → p ≤ m - a - c → (b : Bool) → leb 2 (m - a - c - p) ≡ b → b ≡ leb (a + (c + p + 2)) m
-  room h k l true e = sym (le-leb (a + (c + p + 2)) m (omega (arith, leb-true 2 (m - a - c - p) e)))
-  room h k l false e = sym (lt-leb (a + (c + p + 2)) m (omega (arith, leb-false 2 (m - a - c - p) e)))
-
-  pub no_room : m < a + (c + p + 2) → false ≡ leb (a + (c + p + 2)) m
-  no_room h = sym (lt-leb _ _ h)
-
-  pub room-left : a ≤ m → c ≤ m - a → p ≤ m - a - c → leb 2 (m - a - c - p) ≡ leb (a + (c + p + 2)) m
-  room-left h k l = room h k l _ refl
-
--- a list of no octets
-pub no-octets : (l : List ℕ) → eqb (length l) 0 ≡ is_empty l
-no-octets [] = refl
-no-octets (x ∷ l) = ne_eqb (suc (length l)) 0 (λ e. omega arith)
-
 -- ---- the writer
 
 module _ (a c p : List ℕ) where
@@ -180,9 +163,6 @@ module _ (a c p : List ℕ) where
         → (Writes.Length n ≡ writing a c p (length o)) × (w ≡ written_into a c p o)
     unfolding writing written_into
     wrote e f n w u v = let g : leb (length (joined a c p)) (length o) ≡ true = rw length-joined f in (rw (e, g, u), rw e v)
-
-    pub fits : leb (length a + (length c + length p + 2)) (length o) ≡ true → length (joined a c p) ≤ length o
-    fits f = rw length-joined (leb-true _ _ f)
 
 -- what the writer wrote, read again, has the fields' lengths, and is these fields joined (M-100 of document 02)
 pub read_back : (a c p o : List ℕ) (n : ℕ) → writing a c p (length o) ≡ Writes.Length n

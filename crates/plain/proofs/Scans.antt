@@ -6,7 +6,7 @@ use Prim.Native.Nat.{ℕ, zero, suc, ◌+◌, ◌-◌, ◌<◌, ◌≤◌}
 use native.Mathlib.Nat.{add-zero, zero-add}
 use native.Mathlib.Numerals.{add-one}
 use native.Mathlib.Omega.{arith}
-use borrow.Author.Tests.{lt-ltb, le-ltb, eq-eqb, ne_eqb, eqb-true, eqb-false}
+use borrow.Author.Tests.{lt-ltb, eq-eqb, ne_eqb, eqb-true, eqb-false}
 use lib.Dec.{ltb, eqb}
 use lib.ListN.{length, get_or, drop, drop_of_length-le}
 use lib.Seq.{drop-cons}
@@ -20,11 +20,11 @@ use Rattle.plain.specs.declared.Fields.{Fields}
 use Rattle.plain.specs.declared.Fields.TheVariants.{Lengths, Malformed}
 use Rattle.plain.specs.declared.scan.Scan.{Scan}
 use Rattle.plain.specs.declared.utf8.Need.{Need}
-use Rattle.plain.specs.Utf8.{within, need, tails, broken, lead, follow, safe_from, safe}
-use Rattle.plain.specs.Message.{fit, well_formed, fields}
-use Rattle.plain.specs.Private.{started, ends, ended, longer, step, scan, finished}
+use Rattle.plain.specs.Utf8.{within, tails, broken, lead, follow, safe_from, safe}
+use Rattle.plain.specs.Message.{well_formed, fields}
+use Rattle.plain.specs.Private.{started, ends, longer, step, scan, finished}
 use Rattle.plain.proofs.Grammar.{Row, row-utf1, row-utf2, row_utf3_E0, row_utf3_E1, row_utf3_ED, row_utf3_EE, row_utf4_F0, row_utf4_F1, row_utf4_F4}
-use Rattle.plain.proofs.Grammar.{no_row, row, below, nothing-within, broken-never}
+use Rattle.plain.proofs.Grammar.{no_row, row, below, nothing-within}
 
 -- in two parts
 pub scan-append : (s : Scan) (l r : List ℕ) → scan s (l ++ r) ≡ scan (scan s l) r
@@ -248,13 +248,3 @@ module _ (l : List ℕ) (n : Need) (i : ℕ) where
   pub safe-turned : length l ≤ i → safe_from n (drop i l) ≡ safe l → eqb n.more 0 ≡ safe l
   unfolding safe_from
   safe-turned h inv = rw (drop_of_length-le l {i = i} h) at inv
-
--- the end of a message, by a test b of what must follow
-module _ (s : Scan) (b : Bool) (e : b ≡ eqb s.need.more 0) where
-  pub whole : (eqb s.field 2 && b && ltb 0 s.authcid && ltb 0 s.length) ≡ true → Lengths s.authzid s.authcid s.length ≡ finished s
-  unfolding finished
-  whole h = rw (rw e at h)
-
-  pub not-whole : (eqb s.field 2 && b && ltb 0 s.authcid && ltb 0 s.length) ≡ false → Malformed ≡ finished s
-  unfolding finished
-  not-whole h = rw (rw e at h)

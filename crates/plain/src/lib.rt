@@ -56,6 +56,7 @@ fn value(k: &[u8; 256], x: u8) -> u8
 }
 
 // What stands for octets at index i of a text in base64.
+#[tactic(auto, unfolding(base64text::specs::Base64::group_of))]
 fn group_at(k: &[u8; 256], text: &[u8], i: usize) -> Group
     requires { (i + 4 ≤ length text.now) × (k.now ≡ values) }
     ensures { result ≡ group_at text.now i }

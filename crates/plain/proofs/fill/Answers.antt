@@ -1,5 +1,4 @@
 use Rattle.plain.proofs.Laws.{five-parts}
-use borrow.Author.Rules.{rules}
 use native.Mathlib.Omega.{arith}
 use Rattle.plain.proofs.fill.Goals as goal
 

@@ -1,14 +1,8 @@
-use Prim.Native.Nat.{◌-◌, ◌≤◌}
 use Rattle.plain.proofs.Scans.{safe-turn, safe-turned}
-use Rattle.plain.specs.Utf8.{safe_from, safe}
 use borrow.Author.Rules.{rules}
-use lib.ListN.{length, drop}
-use mathlib.Core.Path.{◌≡◌, ◌∙◌}
+use mathlib.Core.Path.{◌∙◌}
 use native.Mathlib.Omega.{arith}
 use Rattle.plain.proofs.is_safe.Goals as goal
-
-pub loop-i-init : goal.loop-i-init
-loop-i-init c = (search rules, rw c.start-need.ensures)
 
 pub loop-i-preserved : goal.loop-i-preserved
 loop-i-preserved c = (search rules, safe-turn _ _ _ (omega arith) c.loop-i.invariant.1 _ c.follow-need.ensures)

@@ -1,10 +1,7 @@
 use Prim.Native.Nat.{◌-◌, ◌≤◌}
-use Rattle.plain.proofs.Scans.{safe-turn, safe-turned}
 use Rattle.plain.specs.Utf8.{safe_from, safe}
-use borrow.Author.Rules.{rules}
 use lib.ListN.{length, drop}
-use mathlib.Core.Path.{◌≡◌, ◌∙◌}
-use native.Mathlib.Omega.{arith}
+use mathlib.Core.Path.{◌≡◌}
 use Rattle.plain.proofs.is_safe.Given as goal
 
 abbrev pub invariant-loop-i : goal.invariant-loop-i

@@ -1,11 +1,6 @@
-use Prim.Native.Nat.{◌-◌, ◌≤◌}
-use Rattle.base64text.specs.Base64.{octets}
 use Rattle.plain.proofs.Scans.{scanned, grown-by, group-most, group-turn, groups-turned}
-use Rattle.plain.specs.Message.{measured}
-use Rattle.plain.specs.Private.{scan, finished}
 use borrow.Author.Rules.{rules}
-use lib.ListN.{length, drop}
-use mathlib.Core.Path.{◌≡◌, ◌∙◌}
+use mathlib.Core.Path.{◌∙◌}
 use native.Mathlib.Omega.{arith}
 use Rattle.plain.proofs.measure.Goals as goal
 
@@ -14,10 +9,10 @@ loop-i-init c = (search rules, rw c.started-s.ensures (omega arith), rw c.starte
 
 pub loop-i-preserved : goal.loop-i-preserved
 loop-i-preserved c = (
-      search rules,
-      omega (arith, grown-by _ _ _ c.with_group-s.ensures, group-most c.group_at.result),
-      group-turn _ _ _ (omega arith) c.loop-i.invariant.2 _ c.group_at.ensures _ c.with_group-s.ensures,
-    )
+  search rules,
+  omega (arith, grown-by _ _ _ c.with_group-s.ensures, group-most c.group_at.result),
+  group-turn _ _ _ (omega arith) c.loop-i.invariant.2 _ c.group_at.ensures _ c.with_group-s.ensures,
+)
 
 pub returns : goal.returns
 returns c = c.finished.ensures ∙ groups-turned _ _ c.loop-i.i (omega arith) c.loop-i.invariant.2

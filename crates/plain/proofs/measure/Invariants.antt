@@ -1,12 +1,9 @@
 use Prim.Native.Nat.{◌-◌, ◌≤◌}
 use Rattle.base64text.specs.Base64.{octets}
-use Rattle.plain.proofs.Scans.{scanned, grown-by, group-most, group-turn, groups-turned}
 use Rattle.plain.specs.Message.{measured}
 use Rattle.plain.specs.Private.{scan, finished}
-use borrow.Author.Rules.{rules}
 use lib.ListN.{length, drop}
-use mathlib.Core.Path.{◌≡◌, ◌∙◌}
-use native.Mathlib.Omega.{arith}
+use mathlib.Core.Path.{◌≡◌}
 use Rattle.plain.proofs.measure.Given as goal
 
 abbrev pub invariant-loop-i : goal.invariant-loop-i

@@ -1,11 +1,8 @@
 use Prim.Native.Nat.{◌-◌, ◌≤◌}
-use Rattle.plain.proofs.Scans.{scanned, grown, turn, turned}
 use Rattle.plain.specs.Message.{fields}
 use Rattle.plain.specs.Private.{scan, finished}
-use borrow.Author.Rules.{rules}
 use lib.ListN.{length, drop}
-use mathlib.Core.Path.{◌≡◌, ◌∙◌}
-use native.Mathlib.Omega.{arith}
+use mathlib.Core.Path.{◌≡◌}
 use Rattle.plain.proofs.read.Given as goal
 
 abbrev pub invariant-loop-i : goal.invariant-loop-i

@@ -1,6 +1,4 @@
 use Rattle.plain.proofs.Laws.{unfit, short, wrote}
-use borrow.Author.Rules.{rules}
-use borrow.Author.Tests.{leb-true, not-true, not-false}
 use mathlib.Core.Path.{sym, ◌∙◌}
 use Rattle.plain.proofs.write.Goals as goal
 
@@ -11,9 +9,6 @@ pub returns-then-not-has_room : goal.returns-then-not-has_room
 returns-then-not-has_room c = short c.args.authzid.now c.args.authcid.now c.args.password.now c.args.out.now
     (sym c.are_fit.ensures ∙ c.if-not-are_fit.false)
     (sym c.has_room.ensures ∙ c.if-not-has_room.true)
-
-pub fill-requires : goal.fill-requires
-fill-requires c = leb-true _ _ (sym c.has_room.ensures ∙ c.if-not-has_room.false)
 
 pub returns : goal.returns
 returns c = wrote c.args.authzid.now c.args.authcid.now c.args.password.now c.args.out.now
