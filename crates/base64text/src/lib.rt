@@ -194,7 +194,7 @@ pub fn grouped(p: u8, q: u8, r: u8, s: u8, c: u8, d: u8) -> Group
     Group::Bad
 }
 
-// By themselves.
+// What four octets of text stand for.
 fn group_of(k: &[u8; 256], a: u8, b: u8, c: u8, d: u8) -> Group
     requires { k.now ≡ values }
     ensures { result ≡ group_of a b c d }

@@ -130,7 +130,8 @@ fn has_room(a: usize, c: usize, p: usize, m: usize) -> bool
 // Writes the message of three fields to the start of out, and gives its length.
 fn fill(authzid: &[u8], authcid: &[u8], password: &[u8], out: &mut [u8]) -> usize
     requires { length authzid.now + (length authcid.now + length password.now + 2) ≤ length out.old }
-    ensures { (result ≡ length (joined authzid.now authcid.now password.now)) × (out.new ≡ written out.old 0 (joined authzid.now authcid.now password.now)) }
+    ensures { (result ≡ length (joined authzid.now authcid.now password.now))
+        × (out.new ≡ written out.old 0 (joined authzid.now authcid.now password.now)) }
 {
     let first = authzid.len();
     let second = first + 1 + authcid.len();
@@ -145,7 +146,8 @@ fn fill(authzid: &[u8], authcid: &[u8], password: &[u8], out: &mut [u8]) -> usiz
 
 // Writes the message of three fields to the start of out. Where it is not written, out is left as it is.
 pub fn write(authzid: &[u8], authcid: &[u8], password: &[u8], out: &mut [u8]) -> Written
-    ensures { (result ≡ writing authzid.now authcid.now password.now (length out.old)) × (out.new ≡ written_into authzid.now authcid.now password.now out.old) }
+    ensures { (result ≡ writing authzid.now authcid.now password.now (length out.old))
+        × (out.new ≡ written_into authzid.now authcid.now password.now out.old) }
 {
     if !are_fit(authzid, authcid, password) {
         return Written::Unfit;
