@@ -175,7 +175,7 @@ class Connection:
         print(f"{self.profile} {papers.quoted(text)}: {given}{listed}; {self.stands()}")
 
 
-CALL = re.compile(r'\b(?:on_(?P<on>smtp|pop3)|dialogue)\(\s*(?:Profile::(?P<by>\w+)\(\),\s*(?P<protected>true|false),\s*)?(?P<events>b"(?:[^"\\]|\\.)*"),?\s*\)')
+CALL = re.compile(r'\b(?:on_(?P<on>smtp|pop3)|dialogue)\(\s*(?:rt,\s*)?(?:Profile::(?P<by>\w+)\(\),\s*(?P<protected>true|false),\s*)?(?P<events>b"(?:[^"\\]|\\.)*"),?\s*\)')
 
 if __name__ == "__main__":
     sys.stdout.reconfigure(newline="\n")

@@ -5,7 +5,7 @@ ghost use Rattle.octets.specs.Reader.{end, measuring, decoding};
 use crate::{Decoded, Measured};
 
 // A line and the index reached in it. Past the line's end nothing is left to read.
-#[derive(Drop)]
+#[derive(Clone, Copy)]
 pub struct Reader<'a> {
     pub line: &'a [u8],
     pub at: usize,

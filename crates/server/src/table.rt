@@ -12,7 +12,7 @@ use session::view::Offer;
 impl Mechanism {
     // A mechanism; a name of more than twenty octets is cut.
     pub fn new(name: &[u8], client_first: bool, needs_protection: bool) -> Mechanism
-        ensures { result ≡ record { name = padded name.entry.now; client_first = client_first; needs_protection = needs_protection } }
+        ensures { result ≡ record { name = padded name.now; client_first = client_first; needs_protection = needs_protection } }
     {
         let kept = name_of(name);
         Mechanism {
