@@ -15,7 +15,8 @@ import re
 import subprocess
 import sys
 
-KIT = "/opt/rattle/rattle"
+# the folder of the kit's library, beside the page that `rt doc` names
+KIT = os.path.join(os.path.dirname(subprocess.run(["rt", "doc"], capture_output=True, text=True, check=True).stdout.strip()), "rattle")
 CAMEL = re.compile(r"[a-z][a-z0-9]*[A-Z]")
 WORD = r"[A-Za-z0-9_'ℕ₀-₉-]"
 DECLARED = re.compile(r"^\s*(?:(?:abbrev|unfoldable|pub|data|record|\|)\s+)*((?:[^\s:=(){}\[\],.]+\s+)+):(?!=)", re.M)
