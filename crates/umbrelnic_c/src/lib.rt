@@ -20,7 +20,7 @@ pub extern "C" fn umbrelnic_image_octets() -> u64
     umbrelnic::umbrelnic_image_octets()
 }
 
-// "Make a desk from a first connection number and a first ticket". Refused: 20.
+// A new server in an image, with the numbers that its first connection and first ticket get. Refused: 20.
 #[unsafe(no_mangle)]
 pub extern "C" fn umbrelnic_make(image: &mut [u8], connection: u64, ticket: u64) -> u64
     ensures { let did = step image.old (Call.make connection ticket) in (result ≡ refusal did.result) × (image.new ≡ did.image) }
@@ -28,7 +28,7 @@ pub extern "C" fn umbrelnic_make(image: &mut [u8], connection: u64, ticket: u64)
     umbrelnic::umbrelnic_make(image, connection, ticket)
 }
 
-// "Add a mechanism: name, whether the client speaks first, whether it needs a protected connection." Refused: 20, 5, 11, 8, 9, 10.
+// One more mechanism, with its two flags. Refused: 20, 5, 11, 8, 9, 10.
 #[unsafe(no_mangle)]
 pub extern "C" fn umbrelnic_add(
     image: &mut [u8],
@@ -41,7 +41,7 @@ pub extern "C" fn umbrelnic_add(
     umbrelnic::umbrelnic_add(image, name, client_first, needs_protection)
 }
 
-// "Open: profile 0 SMTP or 1 POP3, protected or not; gives the connection's number." Refused: 20, 5, 6, 7.
+// A connection is taken up, by SMTP (0) or POP3 (1). Refused: 20, 5, 6, 7.
 #[unsafe(no_mangle)]
 pub extern "C" fn umbrelnic_open(image: &mut [u8], profile: u64, protected: u64) -> Opened
     ensures { let did = step image.old (Call.opens profile protected) in (result ≡ opened_of did.result) × (image.new ≡ did.image) }
@@ -49,7 +49,7 @@ pub extern "C" fn umbrelnic_open(image: &mut [u8], profile: u64, protected: u64)
     umbrelnic::umbrelnic_open(image, profile, protected)
 }
 
-// "Line, for a connection, gives one of: passed on; a question (..); a reply." Refused: 1, 20, 2, 3, 7.
+// What a client sent is to be passed on, asked about or replied to. Refused: 1, 20, 2, 3, 7.
 #[unsafe(no_mangle)]
 pub extern "C" fn umbrelnic_line(
     image: &mut [u8],
@@ -67,7 +67,7 @@ pub extern "C" fn umbrelnic_line(
     umbrelnic::umbrelnic_line(image, connection, line, reply, answer)
 }
 
-// "Verdict, for a ticket, gives a reply." Refused: 1, 20, 4, 5.
+// The password service has answered a query. Refused: 1, 20, 4, 5.
 #[unsafe(no_mangle)]
 pub extern "C" fn umbrelnic_verdict(
     image: &mut [u8],
@@ -86,7 +86,7 @@ pub extern "C" fn umbrelnic_verdict(
     umbrelnic::umbrelnic_verdict(image, ticket, verdict, bytes, reply, answer)
 }
 
-// "Mail ended, for a connection: clears the transaction". Refused: 20, 2.
+// A connection's transaction is over. Refused: 20, 2.
 #[unsafe(no_mangle)]
 pub extern "C" fn umbrelnic_mail_ended(image: &mut [u8], connection: u64) -> u64
     ensures { let did = step image.old (Call.mail_ended connection) in (result ≡ refusal did.result) × (image.new ≡ did.image) }
@@ -94,7 +94,7 @@ pub extern "C" fn umbrelnic_mail_ended(image: &mut [u8], connection: u64) -> u64
     umbrelnic::umbrelnic_mail_ended(image, connection)
 }
 
-// "Who: signed in or not, and the name." Refused: 1, 20, 2.
+// Whether somebody is signed in on a connection, and under which name. Refused: 1, 20, 2.
 #[unsafe(no_mangle)]
 pub extern "C" fn umbrelnic_who(image: &[u8], connection: u64, name: &mut [u8]) -> Borne
     ensures { let did = step image.now (Call.who connection name.old) in
@@ -105,7 +105,7 @@ pub extern "C" fn umbrelnic_who(image: &[u8], connection: u64, name: &mut [u8]) 
     umbrelnic::umbrelnic_who(image, connection, name)
 }
 
-// "Close: clears the place and voids its ticket." Refused: 20, 2.
+// A connection is given up, and with it the ticket that it waits on. Refused: 20, 2.
 #[unsafe(no_mangle)]
 pub extern "C" fn umbrelnic_close(image: &mut [u8], connection: u64) -> u64
     ensures { let did = step image.old (Call.close connection) in (result ≡ refusal did.result) × (image.new ≡ did.image) }

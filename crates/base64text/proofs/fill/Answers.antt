@@ -21,7 +21,9 @@ put-requires c = omega (arith, counted c.args.text.now c.loop-i.i c.loop-i.n _ _
 
 pub returns-then-size-i-ge4 : goal.returns-then-size-i-ge4
 returns-then-size-i-ge4 c = c.put.ensures.1
-    ∙ all-filled c.args.text.now (c.loop-i.i + 4) _ _ _ (filled c.args.text.now c.loop-i.i c.loop-i.n _ _ c.group_at-g.ensures (unchecked-end c.args.text.now c.loop-i.i (omega arith)) _ _ c.loop-i.invariant.3) (omega arith)
+    ∙ all-filled c.args.text.now (c.loop-i.i + 4) _ _ _
+    (filled c.args.text.now c.loop-i.i c.loop-i.n _ _ c.group_at-g.ensures
+    (unchecked-end c.args.text.now c.loop-i.i (omega arith)) _ _ c.loop-i.invariant.3) (omega arith)
 
 pub returns-else-size-i-ge4 : goal.returns-else-size-i-ge4
 returns-else-size-i-ge4 c = all-filled _ c.loop-i.i _ _ _ c.loop-i.invariant.3 (omega arith)

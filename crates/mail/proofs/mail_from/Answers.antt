@@ -13,4 +13,5 @@ pub returns-then-line-end : goal.returns-then-line-end
 returns-then-line-end c = no-path c.args.line.now c.args.at _ c.find-end.ensures (sym (opens-is c.args.line.now c.args.at _ _ c.part.ensures c.is_word.ensures) ∙ c.if-not-is_word.false) (omega arith)
 
 pub returns : goal.returns
-returns c = c.read_parameters.ensures ∙ whole c.args.line.now c.args.at _ c.find-end.ensures (sym (opens-is c.args.line.now c.args.at _ _ c.part.ensures c.is_word.ensures) ∙ c.if-not-is_word.false) (omega arith)
+returns c = c.read_parameters.ensures ∙ whole c.args.line.now c.args.at _ c.find-end.ensures
+    (sym (opens-is c.args.line.now c.args.at _ _ c.part.ensures c.is_word.ensures) ∙ c.if-not-is_word.false) (omega arith)

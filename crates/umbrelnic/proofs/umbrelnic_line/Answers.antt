@@ -16,7 +16,8 @@ hear-requires c = let p = placed_at NoConnection (holding (is_numbered c.args.co
     (p.0, p.1, sym c.are_short.ensures ∙ c.if-are_short.false)
 
 pub returns-in-Refused : goal.returns-in-Refused
-returns-in-Refused c = rw (line_refused c.args.image.now c.args.connection c.args.line.now c.args.reply.now c.args.answer.now (sym c.are_short.ensures ∙ c.if-are_short.false) _ (sym c.in-Refused.is ∙ c.find_connection-place.ensures))
+returns-in-Refused c = rw (line_refused c.args.image.now c.args.connection c.args.line.now c.args.reply.now c.args.answer.now
+    (sym c.are_short.ensures ∙ c.if-are_short.false) _ (sym c.in-Refused.is ∙ c.find_connection-place.ensures))
     (c.not_answered-in-Refused.ensures, refl, sym (nothing_written _), sym (nothing_written _))
 
 pub returns-in-At : goal.returns-in-At

@@ -17,9 +17,11 @@ returns-in-Unlisted c = rw (open-unlisted c.args.image.now (sym c.is_taken.ensur
     (c.not_opened-in-Unlisted.ensures, refl)
 
 pub returns-then-protected-le1 : goal.returns-then-protected-le1
-returns-then-protected-le1 c = rw (open-listed c.args.image.now (sym c.is_taken.ensures ∙ c.if-not-is_taken.false) c.args.profile c.args.protected _ (sym c.in-Known.is ∙ c.of-listed.ensures) c.if-protected-le1.true)
+returns-then-protected-le1 c = rw (open-listed c.args.image.now (sym c.is_taken.ensures ∙ c.if-not-is_taken.false) c.args.profile c.args.protected _
+    (sym c.in-Known.is ∙ c.of-listed.ensures) c.if-protected-le1.true)
     c.enter.ensures
 
 pub returns-else-protected-le1 : goal.returns-else-protected-le1
-returns-else-protected-le1 c = rw (open-neither c.args.image.now (sym c.is_taken.ensures ∙ c.if-not-is_taken.false) c.args.profile c.args.protected _ (sym c.in-Known.is ∙ c.of-listed.ensures) c.if-protected-le1.false)
+returns-else-protected-le1 c = rw (open-neither c.args.image.now (sym c.is_taken.ensures ∙ c.if-not-is_taken.false) c.args.profile c.args.protected _
+    (sym c.in-Known.is ∙ c.of-listed.ensures) c.if-protected-le1.false)
     (c.not_opened-else-protected-le1.ensures, refl)

@@ -9,16 +9,19 @@ use mathlib.Core.Path.{refl, sym, ap, ◌∙◌}
 use Rattle.umbrelnic.proofs.umbrelnic_who.Goals as goal
 
 pub returns-then-name-lt-LONGEST_NAME : goal.returns-then-name-lt-LONGEST_NAME
-returns-then-name-lt-LONGEST_NAME c = rw (step-short c.args.image.now (Call.who c.args.connection c.args.name.now) (ap not (lt-leb longest_name (length c.args.name.now) c.if-name-lt-LONGEST_NAME.true)))
+returns-then-name-lt-LONGEST_NAME c = rw (step-short c.args.image.now (Call.who c.args.connection c.args.name.now)
+    (ap not (lt-leb longest_name (length c.args.name.now) c.if-name-lt-LONGEST_NAME.true)))
     (c.not_told.ensures, refl, sym (nothing_written _))
 
 pub tell-requires : goal.tell-requires
 tell-requires c = (c.if-name-lt-LONGEST_NAME.false, session-within c.args.image.now c.args.connection _ (sym c.in-At.is ∙ c.find_connection-place.ensures))
 
 pub returns-in-Refused : goal.returns-in-Refused
-returns-in-Refused c = rw (who-refused c.args.image.now c.args.connection c.args.name.now (ap not (le-leb longest_name (length c.args.name.now) c.if-name-lt-LONGEST_NAME.false)) _ (sym c.in-Refused.is ∙ c.find_connection-place.ensures))
+returns-in-Refused c = rw (who-refused c.args.image.now c.args.connection c.args.name.now
+    (ap not (le-leb longest_name (length c.args.name.now) c.if-name-lt-LONGEST_NAME.false)) _ (sym c.in-Refused.is ∙ c.find_connection-place.ensures))
     (c.not_told-in-Refused.ensures, refl, sym (nothing_written _))
 
 pub returns-in-At : goal.returns-in-At
-returns-in-At c = rw (who-done c.args.image.now c.args.connection _ (sym c.in-At.is ∙ c.find_connection-place.ensures) c.args.name.now (ap not (le-leb longest_name (length c.args.name.now) c.if-name-lt-LONGEST_NAME.false)))
+returns-in-At c = rw (who-done c.args.image.now c.args.connection _ (sym c.in-At.is ∙ c.find_connection-place.ensures) c.args.name.now
+    (ap not (le-leb longest_name (length c.args.name.now) c.if-name-lt-LONGEST_NAME.false)))
     (c.tell.ensures.0, refl, c.tell.ensures.1)

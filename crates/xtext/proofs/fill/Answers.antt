@@ -22,7 +22,11 @@ pub bounds-text-i-then-x-eq43-2 : goal.bounds-text-i-then-x-eq43-2
 bounds-text-i-then-x-eq43-2 c = omega (arith, (is-escape c.args.text.now c.loop-i.i c.loop-i.invariant.1.text c.if-x-eq43.true).whole)
 
 pub hexchar-requires : goal.hexchar-requires
-hexchar-requires c = ((is-escape c.args.text.now c.loop-i.i c.loop-i.invariant.1.text c.if-x-eq43.true).first, (is-escape c.args.text.now c.loop-i.i c.loop-i.invariant.1.text c.if-x-eq43.true).second, search rules)
+hexchar-requires c = (
+  (is-escape c.args.text.now c.loop-i.i c.loop-i.invariant.1.text c.if-x-eq43.true).first,
+  (is-escape c.args.text.now c.loop-i.i c.loop-i.invariant.1.text c.if-x-eq43.true).second,
+  search rules,
+)
 
 pub bounds-out-n : goal.bounds-out-n
 bounds-out-n c = omega (arith, fits _ _ _ _ _ c.loop-i.invariant.1 _ _ (is-escape c.args.text.now c.loop-i.i c.loop-i.invariant.1.text c.if-x-eq43.true).stands)

@@ -12,7 +12,8 @@ pub loop-i-init : goal.loop-i-init
 loop-i-init c = (search rules, resumed-zero (valid c.args.text.now) (octets c.args.text.now))
 
 pub returns-then-not-is_hexchar_at : goal.returns-then-not-is_hexchar_at
-returns-then-not-is_hexchar_at c = no-turn _ c.loop-i.i _ c.loop-i.invariant.1 (omega arith) (sym c.is_xchar.ensures ∙ c.if-not-is_xchar.true) (sym c.is_hexchar_at.ensures ∙ c.if-not-is_hexchar_at.true)
+returns-then-not-is_hexchar_at c = no-turn _ c.loop-i.i _ c.loop-i.invariant.1 (omega arith) (sym c.is_xchar.ensures ∙ c.if-not-is_xchar.true)
+    (sym c.is_hexchar_at.ensures ∙ c.if-not-is_hexchar_at.true)
 
 pub overflow_add-i-in-loop-i : goal.overflow_add-i-in-loop-i
 overflow_add-i-in-loop-i c = elim c.if-not-is_xchar.branch [ then-not-is_xchar+else-not-is_hexchar_at w ↦ omega arith | else-not-is_xchar w ↦ omega arith ]

@@ -17,7 +17,8 @@ loop-i-preserved c = (
   search rules,
   search rules,
   omega (arith, length-turn c.args.bytes.now c.loop-i.i (omega arith)),
-  rw (c.put-n.ensures.0, c.put-n.ensures.1) (store-part _ _ _ (spelling (get_or c.args.bytes.now c.loop-i.i 0)) (encode (drop (c.loop-i.i + 1) c.args.bytes.now)) c.loop-i.n c.loop-i.invariant.3 (encode-turn c.args.bytes.now c.loop-i.i (omega arith))),
+  rw (c.put-n.ensures.0, c.put-n.ensures.1) (store-part _ _ _ (spelling (get_or c.args.bytes.now c.loop-i.i 0))
+      (encode (drop (c.loop-i.i + 1) c.args.bytes.now)) c.loop-i.n c.loop-i.invariant.3 (encode-turn c.args.bytes.now c.loop-i.i (omega arith))),
 )
 
 pub returns : goal.returns

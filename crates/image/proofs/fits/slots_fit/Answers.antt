@@ -25,7 +25,8 @@ pub loop-i-preserved-then-are_free : goal.loop-i-preserved-then-are_free
 loop-i-preserved-then-are_free c = let free = both (eqb (c.loop-i.i % 8) 0) _ (sym c.are_free.ensures ∙ c.if-are_free.true) in
     let z : c.loop-i.i % 8 ≡ 0 = eqb-true _ _ free.0 in
     let e : c.loop-i.i - 8 + 8 ≡ c.loop-i.i = omega (arith, z) in
-    let w = walk-skip c.args.image.now c.args.header c.loop-i.numbers c.loop-i.tickets 8 (c.loop-i.i - 8) (omega (arith, z)) free.1 (rw e c.loop-i.invariant.1) (rw e c.loop-i.invariant.2) (rw e c.loop-i.invariant.3) in
+    let w = walk-skip c.args.image.now c.args.header c.loop-i.numbers c.loop-i.tickets 8 (c.loop-i.i - 8) (omega (arith, z)) free.1
+    (rw e c.loop-i.invariant.1) (rw e c.loop-i.invariant.2) (rw e c.loop-i.invariant.3) in
     (omega arith, w.0, w.1, w.2)
 
 pub slot_joins-requires : goal.slot_joins-requires

@@ -19,7 +19,8 @@ pub returns-then-e-k : goal.returns-then-e-k
 returns-then-e-k c = no_value c.args.line.now c.args.k (sym c.is_end.ensures ∙ c.if-is_end.false) c.if-line-k-ne61.false _ c.end_of-e.ensures c.if-e-k.true
 
 pub returns-then-is_end-2 : goal.returns-then-is_end-2
-returns-then-is_end-2 c = valued c.args.line.now c.args.k (sym c.is_end.ensures ∙ c.if-is_end.false) c.if-line-k-ne61.false _ c.end_of-e.ensures c.if-e-k.false (sym c.is_end-2.ensures ∙ c.if-is_end-2.true)
+returns-then-is_end-2 c = valued c.args.line.now c.args.k
+    (sym c.is_end.ensures ∙ c.if-is_end.false) c.if-line-k-ne61.false _ c.end_of-e.ensures c.if-e-k.false (sym c.is_end-2.ensures ∙ c.if-is_end-2.true)
 
 pub returns : goal.returns
 returns c = no_end c.args.line.now c.args.k (sym c.is_end.ensures ∙ c.if-is_end.false) c.if-line-k-ne61.false _ c.end_of-e.ensures (sym c.is_end-2.ensures ∙ c.if-is_end-2.false)

@@ -20,16 +20,45 @@ returns-then-same-4 c = rw (sym c.same.ensures ∙ c.if-same.false, sym c.same-2
 
 pub returns-then-same-5 : goal.returns-then-same-5
 unfolding bare_word_of
-returns-then-same-5 c = rw (sym c.same.ensures ∙ c.if-same.false, sym c.same-2.ensures ∙ c.if-same-2.false, sym c.same-3.ensures ∙ c.if-same-3.false, sym c.same-4.ensures ∙ c.if-same-4.false, sym c.same-5.ensures ∙ c.if-same-5.true)
+returns-then-same-5 c = rw (
+  sym c.same.ensures ∙ c.if-same.false,
+  sym c.same-2.ensures ∙ c.if-same-2.false,
+  sym c.same-3.ensures ∙ c.if-same-3.false,
+  sym c.same-4.ensures ∙ c.if-same-4.false,
+  sym c.same-5.ensures ∙ c.if-same-5.true,
+)
 
 pub returns-then-same-6 : goal.returns-then-same-6
 unfolding bare_word_of
-returns-then-same-6 c = rw (sym c.same.ensures ∙ c.if-same.false, sym c.same-2.ensures ∙ c.if-same-2.false, sym c.same-3.ensures ∙ c.if-same-3.false, sym c.same-4.ensures ∙ c.if-same-4.false, sym c.same-5.ensures ∙ c.if-same-5.false, sym c.same-6.ensures ∙ c.if-same-6.true)
+returns-then-same-6 c = rw (
+  sym c.same.ensures ∙ c.if-same.false,
+  sym c.same-2.ensures ∙ c.if-same-2.false,
+  sym c.same-3.ensures ∙ c.if-same-3.false,
+  sym c.same-4.ensures ∙ c.if-same-4.false,
+  sym c.same-5.ensures ∙ c.if-same-5.false,
+  sym c.same-6.ensures ∙ c.if-same-6.true,
+)
 
 pub returns-then-same-7 : goal.returns-then-same-7
 unfolding bare_word_of
-returns-then-same-7 c = rw (sym c.same.ensures ∙ c.if-same.false, sym c.same-2.ensures ∙ c.if-same-2.false, sym c.same-3.ensures ∙ c.if-same-3.false, sym c.same-4.ensures ∙ c.if-same-4.false, sym c.same-5.ensures ∙ c.if-same-5.false, sym c.same-6.ensures ∙ c.if-same-6.false, sym c.same-7.ensures ∙ c.if-same-7.true)
+returns-then-same-7 c = rw (
+  sym c.same.ensures ∙ c.if-same.false,
+  sym c.same-2.ensures ∙ c.if-same-2.false,
+  sym c.same-3.ensures ∙ c.if-same-3.false,
+  sym c.same-4.ensures ∙ c.if-same-4.false,
+  sym c.same-5.ensures ∙ c.if-same-5.false,
+  sym c.same-6.ensures ∙ c.if-same-6.false,
+  sym c.same-7.ensures ∙ c.if-same-7.true,
+)
 
 pub returns : goal.returns
 unfolding bare_word_of
-returns c = rw (sym c.same.ensures ∙ c.if-same.false, sym c.same-2.ensures ∙ c.if-same-2.false, sym c.same-3.ensures ∙ c.if-same-3.false, sym c.same-4.ensures ∙ c.if-same-4.false, sym c.same-5.ensures ∙ c.if-same-5.false, sym c.same-6.ensures ∙ c.if-same-6.false, sym c.same-7.ensures ∙ c.if-same-7.false)
+returns c = rw (
+  sym c.same.ensures ∙ c.if-same.false,
+  sym c.same-2.ensures ∙ c.if-same-2.false,
+  sym c.same-3.ensures ∙ c.if-same-3.false,
+  sym c.same-4.ensures ∙ c.if-same-4.false,
+  sym c.same-5.ensures ∙ c.if-same-5.false,
+  sym c.same-6.ensures ∙ c.if-same-6.false,
+  sym c.same-7.ensures ∙ c.if-same-7.false,
+)

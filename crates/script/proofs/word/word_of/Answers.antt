@@ -20,4 +20,9 @@ returns-then-same-4 c = rw (sym c.same.ensures ∙ c.if-same.false, sym c.same-2
 
 pub returns : goal.returns
 unfolding word_of
-returns c = rw (sym c.same.ensures ∙ c.if-same.false, sym c.same-2.ensures ∙ c.if-same-2.false, sym c.same-3.ensures ∙ c.if-same-3.false, sym c.same-4.ensures ∙ c.if-same-4.false) c.bare_word_of.ensures
+returns c = rw (
+  sym c.same.ensures ∙ c.if-same.false,
+  sym c.same-2.ensures ∙ c.if-same-2.false,
+  sym c.same-3.ensures ∙ c.if-same-3.false,
+  sym c.same-4.ensures ∙ c.if-same-4.false,
+) c.bare_word_of.ensures

@@ -7,15 +7,21 @@ returns-then-header c = rw (add-sealed c.args.image.now c.requires c.args.name.n
     (c.number.ensures, refl)
 
 pub returns-then-not-is_mechanism : goal.returns-then-not-is_mechanism
-returns-then-not-is_mechanism c = rw (add-bad c.args.image.now c.requires c.args.name.now c.args.client_first c.args.needs_protection (rw c.read_header-header.ensures at c.if-header.false) (sym c.is_mechanism.ensures ∙ c.if-not-is_mechanism.true))
+returns-then-not-is_mechanism c = rw (add-bad c.args.image.now c.requires c.args.name.now c.args.client_first c.args.needs_protection
+    (rw c.read_header-header.ensures at c.if-header.false) (sym c.is_mechanism.ensures ∙ c.if-not-is_mechanism.true))
     (c.number-then-not-is_mechanism.ensures, refl)
 
 pub returns-then-is_present : goal.returns-then-is_present
-returns-then-is_present c = rw (add-present c.args.image.now c.requires c.args.name.now c.args.client_first c.args.needs_protection (rw c.read_header-header.ensures at c.if-header.false) (sym c.is_mechanism.ensures ∙ c.if-not-is_mechanism.false) (rw (c.offer.ensures, c.read_mechanisms-table.ensures, c.new-mechanism.ensures) at (sym c.is_present.ensures ∙ c.if-is_present.true)))
+returns-then-is_present c = rw (add-present c.args.image.now c.requires c.args.name.now c.args.client_first c.args.needs_protection
+    (rw c.read_header-header.ensures at c.if-header.false) (sym c.is_mechanism.ensures ∙ c.if-not-is_mechanism.false)
+    (rw (c.offer.ensures, c.read_mechanisms-table.ensures, c.new-mechanism.ensures) at (sym c.is_present.ensures ∙ c.if-is_present.true)))
     (c.number-then-is_present.ensures, refl)
 
 pub returns-then-count-ge-MOST_MECHANISMS : goal.returns-then-count-ge-MOST_MECHANISMS
-returns-then-count-ge-MOST_MECHANISMS c = rw (add-full c.args.image.now c.requires c.args.name.now c.args.client_first c.args.needs_protection (rw c.read_header-header.ensures at c.if-header.false) (sym c.is_mechanism.ensures ∙ c.if-not-is_mechanism.false) (rw (c.offer.ensures, c.read_mechanisms-table.ensures, c.new-mechanism.ensures) at (sym c.is_present.ensures ∙ c.if-is_present.false)) (rw c.read_mechanisms-table.ensures at c.if-count-ge-MOST_MECHANISMS.true))
+returns-then-count-ge-MOST_MECHANISMS c = rw (add-full c.args.image.now c.requires c.args.name.now c.args.client_first c.args.needs_protection
+    (rw c.read_header-header.ensures at c.if-header.false) (sym c.is_mechanism.ensures ∙ c.if-not-is_mechanism.false)
+    (rw (c.offer.ensures, c.read_mechanisms-table.ensures, c.new-mechanism.ensures) at (sym c.is_present.ensures ∙ c.if-is_present.false))
+    (rw c.read_mechanisms-table.ensures at c.if-count-ge-MOST_MECHANISMS.true))
     (c.number-then-count-ge-MOST_MECHANISMS.ensures, refl)
 
 pub returns : goal.returns
@@ -23,5 +29,8 @@ returns c = let s = rw c.read_header-header.ensures at c.if-header.false in
     let m = sym c.is_mechanism.ensures ∙ c.if-not-is_mechanism.false in
     let p = rw (c.offer.ensures, c.read_mechanisms-table.ensures, c.new-mechanism.ensures) at (sym c.is_present.ensures ∙ c.if-is_present.false) in
     let h = rw c.read_mechanisms-table.ensures at c.if-count-ge-MOST_MECHANISMS.false in
-    rw (add-gives c.args.image.now c.requires c.args.name.now c.args.client_first c.args.needs_protection s m p h)
-    (refl, rw (c.write_mechanism.ensures, c.read_mechanisms-table.ensures, c.new-mechanism.ensures) (add-leaves c.args.image.now c.requires c.args.name.now c.args.client_first c.args.needs_protection s m p h _))
+    rw (add-gives c.args.image.now c.requires c.args.name.now c.args.client_first c.args.needs_protection s m p h) (
+      refl,
+      rw (c.write_mechanism.ensures, c.read_mechanisms-table.ensures, c.new-mechanism.ensures)
+          (add-leaves c.args.image.now c.requires c.args.name.now c.args.client_first c.args.needs_protection s m p h _),
+    )

@@ -22,4 +22,11 @@ pub returns-in-5 : goal.returns-in-5
 returns-in-5 c = let e : c.args.number ≡ 5 = omega arith in rw e
 
 pub returns-in_default : goal.returns-in_default
-returns-in_default c = rw (ne_eqb c.args.number 0 (λ e. omega arith), ne_eqb c.args.number 1 (λ e. omega arith), ne_eqb c.args.number 2 (λ e. omega arith), ne_eqb c.args.number 3 (λ e. omega arith), ne_eqb c.args.number 4 (λ e. omega arith), ne_eqb c.args.number 5 (λ e. omega arith))
+returns-in_default c = rw (
+  ne_eqb c.args.number 0 (λ e. omega arith),
+  ne_eqb c.args.number 1 (λ e. omega arith),
+  ne_eqb c.args.number 2 (λ e. omega arith),
+  ne_eqb c.args.number 3 (λ e. omega arith),
+  ne_eqb c.args.number 4 (λ e. omega arith),
+  ne_eqb c.args.number 5 (λ e. omega arith),
+)
