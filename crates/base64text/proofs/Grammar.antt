@@ -5,9 +5,10 @@ use mathlib.Core.Bool.{true, false≢true}
 use mathlib.Core.List.{List, [], ◌∷◌, ◌++◌}
 use Prim.Native.Nat.{ℕ, ◌%◌, ◌<◌}
 use Rattle.octets.specs.Lists.{is_empty}
-use Rattle.base64text.specs.Base64.{value, pad, joined, octet1, octet2, octet3, group_of, octets_of, follows, valid, octets}
+use Rattle.base64text.specs.Base64.{value, pad, joined, octet1, octet2, octet3, group_of, octets_in, follows, valid, octets}
+use Rattle.std.specs.Prelude.{Option}
 use Rattle.base64text.specs.declared.Group.{Group}
-use Rattle.base64text.proofs.Groups.{Cases, is_one, is-two, is-three, is-bad, cases}
+use Rattle.base64text.proofs.Groups.{Cases, is_one, is-two, is-three, is_none, cases}
 
 pub data Text : List ℕ → List ℕ → Type 0 where
   none : Text [] []
@@ -27,10 +28,10 @@ text (a ∷ b ∷ []) h = absurd (false≢true h)
 text (a ∷ b ∷ c ∷ []) h = absurd (false≢true h)
 text (a ∷ b ∷ c ∷ d ∷ r) h = go (group_of a b c d) (cases a b c d) r (text r) h
   where
-    go : (g : Group) → Cases a b c d g → (r : List ℕ) → (valid r ≡ true → Text r (octets r)) → follows g (is_empty r) (valid r) ≡ true → Text (a ∷ b ∷ c ∷ d ∷ r) (octets_of g ++ octets r)
+    go : (g : Option Group) → Cases a b c d g → (r : List ℕ) → (valid r ≡ true → Text r (octets r)) → follows g (is_empty r) (valid r) ≡ true → Text (a ∷ b ∷ c ∷ d ∷ r) (octets_in g ++ octets r)
     go g (is_one ha hb hc hd hz) [] ih h = two-letters ha hb hc hd hz
     go g (is_one ha hb hc hd hz) (x ∷ r) ih h = absurd (false≢true h)
     go g (is-two ha hb hc hd hz) [] ih h = three-letters ha hb hc hd hz
     go g (is-two ha hb hc hd hz) (x ∷ r) ih h = absurd (false≢true h)
     go g (is-three ha hb hc hd) r ih h = four-letters ha hb hc hd (ih h)
-    go g is-bad r ih h = absurd (false≢true h)
+    go g is_none r ih h = absurd (false≢true h)

@@ -8,7 +8,7 @@ use lib.Dec.{ltb, eqb}
 use Rattle.octets.proofs.Cases.{both}
 use Rattle.base64text.specs.Base64.{value, alphabet, pad, joined, letters, letters3, letters2, three, two, one, group_of}
 use Rattle.base64text.specs.declared.Group.{Group}
-use Rattle.base64text.specs.declared.Group.TheVariants.{Bad}
+use Rattle.std.specs.Prelude.{Option, None}
 
 -- by the numbers p q r s that code has found: a way out of group_of each
 module _ (a b c d : ℕ) {p q r s : ℕ} (hp : p ≡ value a) (hq : q ≡ value b) (hr : r ≡ value c) (hs : s ≡ value d) where
@@ -23,10 +23,6 @@ module _ (a b c d : ℕ) {p q r s : ℕ} (hp : p ≡ value a) (hq : q ≡ value 
   pub as_one : letters p q r s ≡ false → letters3 p q r d ≡ false → letters2 p q c d ≡ true → one (joined p q 0 0) ≡ group_of a b c d
   unfolding group_of
   as_one e f g = rw (← hp, ← hq, ← hr, ← hs, e, f, g)
-
-  pub as_bad : letters p q r s ≡ false → letters3 p q r d ≡ false → letters2 p q c d ≡ false → Bad ≡ group_of a b c d
-  unfolding group_of
-  as_bad e f g = rw (← hp, ← hq, ← hr, ← hs, e, f, g)
 
 -- the tests as facts on numbers
 pub are-letters : (p q r s : ℕ) → letters p q r s ≡ true → (p < 64) × (q < 64) × (r < 64) × (s < 64)
@@ -56,22 +52,22 @@ are-letters2 p q c d e =
     (ltb-true p 64 w.0, ltb-true q 64 w.1, eqb-true c pad v.1, eqb-true d pad u.1, eqb-true _ 0 t.1)
 
 -- a group says what its octets of text are
-pub data Cases (a b c d : ℕ) : Group → Type 0 where
+pub data Cases (a b c d : ℕ) : Option Group → Type 0 where
   is-three : value a < 64 → value b < 64 → value c < 64 → value d < 64 → Cases a b c d (three (joined (value a) (value b) (value c) (value d)))
   is-two : value a < 64 → value b < 64 → value c < 64 → d ≡ pad → joined (value a) (value b) (value c) 0 % 256 ≡ 0 → Cases a b c d (two (joined (value a) (value b) (value c) 0))
   is_one : value a < 64 → value b < 64 → c ≡ pad → d ≡ pad → joined (value a) (value b) 0 0 % 65536 ≡ 0 → Cases a b c d (one (joined (value a) (value b) 0 0))
-  is-bad : Cases a b c d Bad
+  is_none : Cases a b c d None
 
 pub cases : (a b c d : ℕ) → Cases a b c d (group_of a b c d)
 unfolding group_of
 cases a b c d = go _ refl _ refl _ refl
   where
     go : (t : Bool) → letters (value a) (value b) (value c) (value d) ≡ t → (u : Bool) → letters3 (value a) (value b) (value c) d ≡ u → (v : Bool) → letters2 (value a) (value b) c d ≡ v
-        → Cases a b c d (cond t (three (joined (value a) (value b) (value c) (value d))) (cond u (two (joined (value a) (value b) (value c) 0)) (cond v (one (joined (value a) (value b) 0 0)) Bad)))
+        → Cases a b c d (cond t (three (joined (value a) (value b) (value c) (value d))) (cond u (two (joined (value a) (value b) (value c) 0)) (cond v (one (joined (value a) (value b) 0 0)) None)))
     go true e u f v g = let h = are-letters _ _ _ _ e in is-three h.0 h.1 h.2 h.3
     go false e true f v g = let h = are-letters3 _ _ _ _ f in is-two h.0 h.1 h.2 h.3 h.4
     go false e false f true g = let h = are-letters2 _ _ _ _ g in is_one h.0 h.1 h.2 h.3 h.4
-    go false e false f false g = is-bad
+    go false e false f false g = is_none
 
 -- "=" is no letter
 pub not-pad : (x : ℕ) → value x < 64 → x ≡ pad → ⊥

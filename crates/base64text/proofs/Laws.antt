@@ -10,10 +10,10 @@ use lib.Dec.{eqb}
 use lib.ListN.{length, take, drop}
 use lib.Seq.{drop-nil}
 use Rattle.octets.specs.Lists.{Octets, holds}
-use Rattle.octets.specs.declared.Measured.{Measured}
-use Rattle.base64text.specs.Base64.{alphabet, value, pad, encode, joined, octet1, octet2, octet3, group_of, octets_of, valid, octets, closing, measured}
+use Rattle.std.specs.Prelude.{Option, Some}
+use Rattle.base64text.specs.Base64.{alphabet, value, pad, encode, joined, octet1, octet2, octet3, group_of, octets_in, valid, octets, closing, measured}
 use Rattle.base64text.specs.declared.Group.{Group}
-use Rattle.base64text.proofs.Groups.{Cases, is_one, is-two, is-three, is-bad, cases, not-pad}
+use Rattle.base64text.proofs.Groups.{Cases, is_one, is-two, is-three, is_none, cases, not-pad}
 use Rattle.base64text.proofs.Grammar.{Text, none, two-letters, three-letters, four-letters, text}
 -- decoding an encoding gives the octets back; every accepted text is the encoding of what it decodes to; for n octets the encoded
 -- length is 4 times n/3 rounded up
@@ -21,8 +21,8 @@ pub use Rattle.base64text.proofs.RoundTrip.{valid-encode, octets-encode, encode-
 pub use Rattle.base64text.proofs.Quads.{length-encode}
 -- a text that is base64 may be decoded without a look at its form
 pub use Rattle.base64text.proofs.Turns.{unchecked-octets, unchecked-decoded}
--- the octets from an index on: those of the group there, then those from the next one on
-pub use Rattle.base64text.proofs.Turns.{octets-turn, octets-end}
+-- what a text stands for, group by group; from an index on, those of the group there, then those from the next one on
+pub use Rattle.base64text.proofs.Turns.{octets_at, octets_groups, octets-turn, octets-end}
 
 -- what a text decodes to are octets
 pub octets-octets : (t : List ℕ) → Octets (octets t)
@@ -33,11 +33,11 @@ octets-octets (a ∷ b ∷ []) = tt
 octets-octets (a ∷ b ∷ c ∷ []) = tt
 octets-octets (a ∷ b ∷ c ∷ d ∷ r) = go (group_of a b c d) (cases a b c d) (octets-octets r)
   where
-    go : (g : Group) → Cases a b c d g → Octets (octets r) → Octets (octets_of g ++ octets r)
+    go : (g : Option Group) → Cases a b c d g → Octets (octets r) → Octets (octets_in g ++ octets r)
     go g (is_one ha hb hc hd hz) ih = (omega arith, ih)
     go g (is-two ha hb hc hd hz) ih = (omega arith, (omega arith, ih))
     go g (is-three ha hb hc hd) ih = (omega arith, (omega arith, (omega arith, ih)))
-    go g is-bad ih = ih
+    go g is_none ih = ih
 
 -- the octets of a valid text from its length and its closing "="
 letter-not-pad : (x : ℕ) → value x < 64 → eqb x pad ≡ false
@@ -98,7 +98,7 @@ shape t h = (whole-groups (text t h), closing-most (text t h), letters-before (t
 pub same-measure : (t u : List ℕ) → valid t ≡ true → valid u ≡ true → length t ≡ length u → closing t ≡ closing u → measured t ≡ measured u
 same-measure t u ht hu l k =
     let n : length (octets t) ≡ length (octets u) = omega (arith, counted (text t ht), counted (text u hu)) in
-    rw (ht, hu) (ap Measured.Length n)
+    rw (ht, hu) (ap Some n)
 
 -- a valid text holds nothing but letters and "="
 module _ (x : ℕ) (n : 64 ≤ value x) (p : x ≡ pad → ⊥) where

@@ -4,6 +4,7 @@ use mathlib.Core.Bool.{true}
 use mathlib.Core.List.{List, [], ◌∷◌}
 use Prim.Native.Nat.{ℕ, ◌+◌, ◌*◌, ◌/◌, ◌%◌, ◌<◌}
 use native.Mathlib.Omega.{arith}
+use Rattle.std.specs.Prelude.{Some}
 use Rattle.octets.specs.Lists.{Octets}
 use Rattle.octets.proofs.Alphabet.{get_d_index, index_get_d}
 use Rattle.base64text.specs.Base64.{alphabet, letter, value, pad, bits, encode, joined, octet1, octet2, octet3, three, two, one, group_of, valid, octets}
@@ -93,29 +94,29 @@ module _ (p q : ℕ) (hp : p < 64) (hq : q < 64) where
 
 -- the group of a quad
 module _ (a b c : ℕ) (ha : a < 256) (hb : b < 256) (hc : c < 256) (w : ℕ) (e : w ≡ bits a b c) where
-  group3 : Three a b c ≡ group_of (letter (w / 262144 % 64)) (letter (w / 4096 % 64)) (letter (w / 64 % 64)) (letter (w % 64))
+  group3 : Some (Three a b c) ≡ group_of (letter (w / 262144 % 64)) (letter (w / 4096 % 64)) (letter (w / 64 % 64)) (letter (w % 64))
   group3 =
       let x = octet1-bits a b c w ha hb hc e in
       let y = octet2-bits a b c w ha hb hc e in
       let z = octet3-bits a b c w ha hb hc e in
-      let m : Three a b c ≡ three w = cc in
+      let m : Some (Three a b c) ≡ three w = cc in
       m ∙ ap three (sym (joined_sextets w (omega arith)))
       ∙ letters-three (w / 262144 % 64) (w / 4096 % 64) (omega arith) (omega arith) (w / 64 % 64) (omega arith) (w % 64) (omega arith)
 
-group2 : (a b : ℕ) → a < 256 → b < 256 → (w : ℕ) → w ≡ bits a b 0 → Two a b ≡ group_of (letter (w / 262144 % 64)) (letter (w / 4096 % 64)) (letter (w / 64 % 64)) pad
+group2 : (a b : ℕ) → a < 256 → b < 256 → (w : ℕ) → w ≡ bits a b 0 → Some (Two a b) ≡ group_of (letter (w / 262144 % 64)) (letter (w / 4096 % 64)) (letter (w / 64 % 64)) pad
 group2 a b ha hb w e =
     let x = octet1-bits a b 0 w ha hb (omega arith) e in
     let y = octet2-bits a b 0 w ha hb (omega arith) e in
-    let m : Two a b ≡ two w = cc in
+    let m : Some (Two a b) ≡ two w = cc in
     let z : w % 64 ≡ 0 = omega arith in
     let j : w ≡ joined (w / 262144 % 64) (w / 4096 % 64) (w / 64 % 64) 0 = omega (arith, joined_sextets w (omega arith), z) in
     let k : joined (w / 262144 % 64) (w / 4096 % 64) (w / 64 % 64) 0 % 256 ≡ 0 = rw (← j) (omega arith) in
     m ∙ ap two j ∙ letters-two (w / 262144 % 64) (w / 4096 % 64) (omega arith) (omega arith) (w / 64 % 64) (omega arith) k
 
-group1 : (a : ℕ) → a < 256 → (w : ℕ) → w ≡ bits a 0 0 → One a ≡ group_of (letter (w / 262144 % 64)) (letter (w / 4096 % 64)) pad pad
+group1 : (a : ℕ) → a < 256 → (w : ℕ) → w ≡ bits a 0 0 → Some (One a) ≡ group_of (letter (w / 262144 % 64)) (letter (w / 4096 % 64)) pad pad
 group1 a ha w e =
     let x = octet1-bits a 0 0 w ha (omega arith) (omega arith) e in
-    let m : One a ≡ one w = cc in
+    let m : Some (One a) ≡ one w = cc in
     let y : w / 64 % 64 ≡ 0 = omega arith in
     let z : w % 64 ≡ 0 = omega arith in
     let j : w ≡ joined (w / 262144 % 64) (w / 4096 % 64) 0 0 = omega (arith, joined_sextets w (omega arith), y, z) in

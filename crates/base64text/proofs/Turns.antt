@@ -1,192 +1,179 @@
--- A turn of the loops over a text: what the rest of the text adds, by its first four octets. Assumes nothing.
+-- A text as code takes it apart: the groups that more text follows, and what stands behind them. Assumes nothing.
 use mathlib.Core.Path.{◌≡◌, refl, sym, ◌∙◌, ap}
-use mathlib.Core.Bool.{true, false, cond, false≢true}
+use mathlib.Core.Bool.{Bool, true, false, ◌&&◌, and-false, false≢true}
 use mathlib.Core.List.{List, [], ◌∷◌, ◌++◌}
-use Prim.Native.Nat.{ℕ, zero, suc, ◌+◌, ◌*◌, ◌-◌, ◌/◌, ◌%◌, ◌<◌, ◌≤◌}
-use native.Mathlib.Nat.{add-zero, not-suc-le-zero}
-use native.Mathlib.Numerals.{add-one, add-two, add-three}
+use Prim.Native.Nat.{ℕ, suc, ◌+◌, ◌*◌, ◌-◌, ◌/◌, ◌<◌, ◌≤◌}
 use native.Mathlib.Omega.{arith}
-use borrow.Author.Tests.{le-leb, lt-leb}
-use lib.ListN.{length, drop, length-drop, length-append, drop_of_length-le}
-use lib.Seq.{drop-cons, sets}
-use Rattle.octets.specs.declared.Measured.{Measured}
-use Rattle.octets.proofs.Answers.{resumed, resumed-zero}
-use Rattle.octets.proofs.Lists.{drop-four, store-part}
-use Rattle.octets.specs.Lists.{is_empty}
-use Rattle.base64text.specs.Base64.{value, letters, octets_of, group_of, follows, valid, octets, unchecked, measured, decoded_into, unchecked_into}
-use Rattle.base64text.specs.Private.{group_at, letters_at, three_at, last}
+use lib.ListN.{length, get_or, take, drop, length-take, length-drop, length-append}
+use Rattle.std.specs.Prelude.{Option, Some, None, is_some}
+use Rattle.std.specs.List.{list_all, flat_map}
+use Rattle.std.specs.Simd.{first_chunks}
+use Rattle.std.proofs.lemmas.List.{append-nil, length-take-le}
+use Rattle.octets.proofs.Cases.{both}
+use Rattle.octets.proofs.Lists.{drop-four}
+use Rattle.base64text.specs.Base64.{value, joined, letters, octets3, octets_of, octets_in, group_of, follows, valid, octets, unchecked, measured, decoded_into, unchecked_into}
+use Rattle.base64text.specs.Private.{before_last, last_of, last_group, letters_in}
 use Rattle.base64text.specs.declared.Group.{Group}
-use Rattle.base64text.specs.declared.Group.TheVariants.{One, Two, Three, Bad}
+use Rattle.base64text.specs.declared.Group.TheVariants.{One, Two, Three}
+use Rattle.base64text.proofs.Stores.{stores}
 use Rattle.base64text.proofs.Groups.{as_three, letters-are, Cases, is-three, cases}
 
--- the measure of a text after n octets; and after a group behind them
-abbrev pub from : ℕ → List ℕ → Measured
-from n t = resumed n (valid t) (octets t)
+-- n groups at the start of a text are those that more text follows
+groups-cut : (t : List ℕ) (n : ℕ) → n ≡ (length t - 1) / 4 → first_chunks 4 n (take (n * 4) t) ≡ before_last t
+unfolding before_last
+groups-cut [] n e = rw e
+groups-cut (a ∷ []) n e = rw e
+groups-cut (a ∷ b ∷ []) n e = rw e
+groups-cut (a ∷ b ∷ c ∷ []) n e = rw e
+groups-cut (a ∷ b ∷ c ∷ d ∷ []) n e = rw e
+groups-cut (a ∷ b ∷ c ∷ d ∷ f ∷ r) n e = go ((length (f ∷ r) - 1) / 4) (groups-cut (f ∷ r) _ refl) (omega arith)
+  where
+    go : (m : ℕ) → first_chunks 4 m (take (m * 4) (f ∷ r)) ≡ before_last (f ∷ r) → n ≡ suc m
+        → first_chunks 4 n (take (n * 4) (a ∷ b ∷ c ∷ d ∷ f ∷ r)) ≡ (a ∷ b ∷ c ∷ d ∷ []) ∷ before_last (f ∷ r)
+    go m ih k = let s : suc m * 4 ≡ suc (suc (suc (suc (m * 4)))) = omega arith in rw (k, s) (ap (λ l. (a ∷ b ∷ c ∷ d ∷ []) ∷ l) ih)
 
-pub from_zero : (t : List ℕ) → from 0 t ≡ measured t
-from_zero t = resumed-zero (valid t) (octets t)
+-- and the rest is what stands behind them
+last-cut : (t : List ℕ) (n : ℕ) → n ≡ (length t - 1) / 4 → drop (n * 4) t ≡ last_of t
+unfolding last_of
+last-cut [] n e = rw e
+last-cut (a ∷ []) n e = rw e
+last-cut (a ∷ b ∷ []) n e = rw e
+last-cut (a ∷ b ∷ c ∷ []) n e = rw e
+last-cut (a ∷ b ∷ c ∷ d ∷ []) n e = rw e
+last-cut (a ∷ b ∷ c ∷ d ∷ f ∷ r) n e = go ((length (f ∷ r) - 1) / 4) (last-cut (f ∷ r) _ refl) (omega arith)
+  where
+    go : (m : ℕ) → drop (m * 4) (f ∷ r) ≡ last_of (f ∷ r) → n ≡ suc m → drop (n * 4) (a ∷ b ∷ c ∷ d ∷ f ∷ r) ≡ last_of (f ∷ r)
+    go m ih k = let s : suc m * 4 ≡ suc (suc (suc (suc (m * 4)))) = omega arith in rw (k, s) ih
 
-abbrev pub after : Group → ℕ → List ℕ → Measured
-after (One x) n r = cond (is_empty r) (Measured.Length (n + 1)) Measured.Malformed
-after (Two x y) n r = cond (is_empty r) (Measured.Length (n + 2)) Measured.Malformed
-after (Three x y z) n r = from (n + 3) r
-after Bad n r = Measured.Malformed
+-- the same as `cut_last` has it
+module _ (t : List ℕ) (m : ℕ) (e : m ≡ length t - 1) where
+  pub before_cut : (k : ℕ) → k ≡ length (take (m / 4 * 4) t) / 4 → first_chunks 4 k (take (m / 4 * 4) t) ≡ before_last t
+  before_cut k f =
+      let n : m / 4 ≡ (length t - 1) / 4 = omega arith in
+      let h : k ≡ m / 4 = omega (arith, length-take (m / 4 * 4) t) in
+      rw h (groups-cut t (m / 4) n)
 
-grown : (m n : ℕ) → m ≡ n → Measured.Length m ≡ Measured.Length n
-grown m n e = ap Measured.Length e
+  pub last_cut : drop (m / 4 * 4) t ≡ last_of t
+  last_cut = last-cut t (m / 4) (omega arith)
 
-ended : (g : Group) (n k : ℕ) (r : List ℕ) → length (octets_of g) ≡ k
-    → cond (is_empty r) (Measured.Length (n + length (octets_of g ++ octets r))) Measured.Malformed ≡ cond (is_empty r) (Measured.Length (n + k)) Measured.Malformed
-unfolding octets
-ended g n k [] e = grown _ _ (omega (arith, length-append (octets_of g) [], e))
-ended g n k (x ∷ r) e = refl
+pub ruleset cutting = (before_cut, last_cut)
 
-split : (g : Group) (n : ℕ) (r : List ℕ)
-    → cond (follows g (is_empty r) (valid r)) (Measured.Length (n + length (octets_of g ++ octets r))) Measured.Malformed ≡ after g n r
-split (One x) n r = ended (One x) n 1 r refl
-split (Two x y) n r = ended (Two x y) n 2 r refl
-split (Three x y z) n r = ap (λ (k : ℕ). cond (valid r) (Measured.Length k) Measured.Malformed) (omega arith)
-split Bad n r = refl
+-- what stands behind them is empty for the empty text alone
+empty_from_last : (t : List ℕ) → length (last_of t) ≡ 0 → t ≡ []
+unfolding last_of
+empty_from_last [] h = refl
+empty_from_last (a ∷ []) h = absurd (omega arith)
+empty_from_last (a ∷ b ∷ []) h = absurd (omega arith)
+empty_from_last (a ∷ b ∷ c ∷ []) h = absurd (omega arith)
+empty_from_last (a ∷ b ∷ c ∷ d ∷ []) h = absurd (omega arith)
+empty_from_last (a ∷ b ∷ c ∷ d ∷ f ∷ r) h = let e : f ∷ r ≡ [] = empty_from_last (f ∷ r) h in absurd (cc)
 
-module _ (t : List ℕ) (i : ℕ) (h : i + 4 ≤ length t) where
-  pub turn : (n : ℕ) → from n (drop i t) ≡ after (group_at t i) n (drop (i + 4) t)
-  unfolding valid octets
-  turn n = rw (drop-four t i h) (split (group_at t i) n (drop (i + 4) t))
+some_from_last : (t : List ℕ) → 0 < length (last_of t) → 0 < length t
+unfolding last_of
+some_from_last [] h = absurd (omega arith)
+some_from_last (a ∷ t) h = omega arith
 
--- the last group
-last-after : (n : ℕ) (g : Group) → last n g ≡ after g n []
-unfolding valid octets
-last-after n (One x) = refl
-last-after n (Two x y) = refl
-last-after n (Three x y z) = rw add-zero
-last-after n Bad = refl
+group_not_empty : (l : List ℕ) (g : Group) → Some g ≡ last_group l → 0 < length l
+group_not_empty [] g e = absurd (cc)
+group_not_empty (a ∷ l) g e = omega arith
 
-pub went : (t : List ℕ) (i n : ℕ) (g : Group) → from n (drop i t) ≡ measured t → g ≡ group_at t i → i + 4 ≡ length t → last n g ≡ measured t
-went t i n g inv e h =
-    let d : drop (i + 4) t ≡ [] = drop_of_length-le t {i = i + 4} (omega arith) in
-    last-after n g ∙ ap (λ (l : List ℕ). after g n l) (sym d) ∙ ap (λ (x : Group). after x n (drop (i + 4) t)) e ∙ sym (turn t i (omega arith) n) ∙ inv
-
-empty-not : (t : List ℕ) (i : ℕ) → i < length t → is_empty (drop i t) ≡ false
-empty-not t i h = ap is_empty (drop-cons t i 0 h)
-
--- fewer than four octets at the end
-short-valid : (r : List ℕ) → 0 < length r → length r < 4 → valid r ≡ false
-unfolding valid
-short-valid [] h k = absurd (not-suc-le-zero h)
-short-valid (a ∷ []) h k = refl
-short-valid (a ∷ b ∷ []) h k = refl
-short-valid (a ∷ b ∷ c ∷ []) h k = refl
-short-valid (a ∷ b ∷ c ∷ d ∷ r) h k = absurd (omega arith)
-
-pub short : (t : List ℕ) (i n : ℕ) → from n (drop i t) ≡ measured t → i < length t → length t - i < 4 → Measured.Malformed ≡ measured t
-short t i n inv h k = rw (short-valid (drop i t) (simp length-drop (omega arith)) (simp length-drop k)) at inv
-
-pub finished : (t : List ℕ) (i n : ℕ) → from n (drop i t) ≡ measured t → length t ≤ i → Measured.Length n ≡ measured t
-unfolding valid octets
-finished t i n inv h = rw (drop_of_length-le t {i = i} h, add-zero) at inv
+-- ---- its measure
 
 -- a group that more text follows is four letters, or the text is not base64
-module _ (a b c d : ℕ) where
-  more : (g : Group) (n : ℕ) (r : List ℕ) → Cases a b c d g → is_empty r ≡ false → letters (value a) (value b) (value c) (value d) ≡ false → Measured.Malformed ≡ after g n r
-  more (One x) n r k e f = simp e
-  more (Two x y) n r k e f = simp e
-  more (Three x y z) n r (is-three ha hb hc hd) e f = absurd (false≢true (sym f ∙ letters-are _ _ _ _ ha hb hc hd))
-  more Bad n r k e f = refl
+module _ (a b c d : ℕ) (r : List ℕ) where
+  broken : (g : Option Group) → Cases a b c d g → letters (value a) (value b) (value c) (value d) ≡ false → follows g false (valid r) ≡ false
+  broken None k e = refl
+  broken (Some (One x)) k e = refl
+  broken (Some (Two x y)) k e = refl
+  broken (Some (Three x y z)) (is-three ha hb hc hd) e = absurd (false≢true (sym e ∙ letters-are _ _ _ _ ha hb hc hd))
 
-  only : (g : Group) (r : List ℕ) → Cases a b c d g → is_empty r ≡ false → follows g (is_empty r) (valid r) ≡ true → (letters (value a) (value b) (value c) (value d) ≡ true) × (valid r ≡ true)
-  only (One x) r k e f = absurd (false≢true (sym e ∙ f))
-  only (Two x y) r k e f = absurd (false≢true (sym e ∙ f))
-  only (Three x y z) r (is-three ha hb hc hd) e f = (letters-are _ _ _ _ ha hb hc hd, f)
-  only Bad r k e f = absurd (false≢true f)
+  only : (g : Option Group) → Cases a b c d g → follows g false (valid r) ≡ true → (letters (value a) (value b) (value c) (value d) ≡ true) × (valid r ≡ true)
+  only None k f = absurd (false≢true f)
+  only (Some (One x)) k f = absurd (false≢true f)
+  only (Some (Two x y)) k f = absurd (false≢true f)
+  only (Some (Three x y z)) (is-three ha hb hc hd) f = (letters-are _ _ _ _ ha hb hc hd, f)
 
-module _ (t : List ℕ) (i : ℕ) (h : i + 4 < length t) where
-  pub broke_off : (n : ℕ) → from n (drop i t) ≡ measured t → letters_at t i ≡ false → Measured.Malformed ≡ measured t
-  broke_off n inv e =
-      more _ _ _ _ (group_at t i) n (drop (i + 4) t) (cases _ _ _ _) (empty-not t (i + 4) h) e ∙ sym (turn t i (omega arith) n) ∙ inv
+-- whether a text that is not empty is base64, by its groups before the last and by what stands behind them
+valid-parts : (t : List ℕ) → 0 < length t → valid t ≡ (list_all letters_in (before_last t) && is_some (last_group (last_of t)))
+unfolding valid before_last last_of
+valid-parts [] h = absurd (omega arith)
+valid-parts (a ∷ []) h = refl
+valid-parts (a ∷ b ∷ []) h = refl
+valid-parts (a ∷ b ∷ c ∷ []) h = refl
+valid-parts (a ∷ b ∷ c ∷ d ∷ []) h = ends (group_of a b c d)
+  where
+    ends : (g : Option Group) → follows g true true ≡ is_some g
+    ends None = refl
+    ends (Some (One x)) = refl
+    ends (Some (Two x y)) = refl
+    ends (Some (Three x y z)) = refl
+valid-parts (a ∷ b ∷ c ∷ d ∷ f ∷ r) h = go (letters (value a) (value b) (value c) (value d)) refl (valid-parts (f ∷ r) (omega arith))
+  where
+    go : (q : Bool) → letters (value a) (value b) (value c) (value d) ≡ q → valid (f ∷ r) ≡ (list_all letters_in (before_last (f ∷ r)) && is_some (last_group (last_of (f ∷ r))))
+        → follows (group_of a b c d) false (valid (f ∷ r)) ≡ (q && list_all letters_in (before_last (f ∷ r)) && is_some (last_group (last_of (f ∷ r))))
+    go true e ih = ap (λ (g : Option Group). follows g false (valid (f ∷ r))) (sym (as_three a b c d refl refl refl refl e)) ∙ ih
+    go false e ih = broken a b c d (f ∷ r) (group_of a b c d) (cases a b c d) e
 
-  pub went_on : (n : ℕ) → from n (drop i t) ≡ measured t → letters_at t i ≡ true → from (n + 3) (drop (i + 4) t) ≡ measured t
-  went_on n inv e = ap (λ (g : Group). after g n (drop (i + 4) t)) (as_three _ _ _ _ refl refl refl refl e) ∙ sym (turn t i (omega arith) n) ∙ inv
+-- how many octets it stands for, if its groups before the last are letters
+octets-parts : (t : List ℕ) → list_all letters_in (before_last t) ≡ true → length (octets t) ≡ length (before_last t) * 3 + length (octets_in (last_group (last_of t)))
+unfolding octets before_last last_of
+octets-parts [] e = refl
+octets-parts (a ∷ []) e = refl
+octets-parts (a ∷ b ∷ []) e = refl
+octets-parts (a ∷ b ∷ c ∷ []) e = refl
+octets-parts (a ∷ b ∷ c ∷ d ∷ []) e = rw append-nil (omega arith)
+octets-parts (a ∷ b ∷ c ∷ d ∷ f ∷ r) e =
+    let k = both (letters (value a) (value b) (value c) (value d)) _ e in
+    let g : length (octets_in (group_of a b c d)) ≡ 3 = ap (λ x. length (octets_in x)) (sym (as_three a b c d refl refl refl refl k.0)) in
+    omega (arith, g, length-append (octets_in (group_of a b c d)) (octets (f ∷ r)), octets-parts (f ∷ r) k.1)
+
+module _ (t : List ℕ) where
+  -- as the code goes: nothing stands behind the groups; they are not letters; what stands behind them is no group; it is one
+  pub no_text : length (last_of t) ≡ 0 → measured t ≡ Some 0
+  unfolding valid octets
+  no_text h = rw (empty_from_last t h)
+
+  pub not_letters : 0 < length (last_of t) → list_all letters_in (before_last t) ≡ false → measured t ≡ None
+  not_letters h e = rw (valid-parts t (some_from_last t h), e)
+
+  pub no_group : 0 < length (last_of t) → None ≡ last_group (last_of t) → measured t ≡ None
+  no_group h e = rw (valid-parts t (some_from_last t h), ← e, and-false (list_all letters_in (before_last t)))
+
+  pub a_group : (g : Group) → list_all letters_in (before_last t) ≡ true → Some g ≡ last_group (last_of t) → measured t ≡ Some (length (before_last t) * 3 + length (octets_of g))
+  a_group g e f = rw (valid-parts t (some_from_last t (group_not_empty (last_of t) g f)), e, octets-parts t e, ← f)
+
+pub ruleset measuring = (no_text, not_letters, no_group, a_group)
 
 -- ---- a text whose form is not looked at
 
-pub sized : (g h : Group) → g ≡ h → length (octets_of g) ≡ length (octets_of h)
-sized g h e = ap (λ (x : Group). length (octets_of x)) e
+-- the three octets that a group is taken for
+abbrev pub three_in : List ℕ → List ℕ
+three_in q = octets3 (joined (value (get_or q 0 0)) (value (get_or q 1 0)) (value (get_or q 2 0)) (value (get_or q 3 0)))
 
--- what its first group adds, where more follows and where it is the last
-pub unchecked-on : (t : List ℕ) (i : ℕ) → i + 4 < length t → unchecked (drop i t) ≡ octets_of (three_at t i) ++ unchecked (drop (i + 4) t)
-unfolding unchecked
-unchecked-on t i h = rw (drop-four t i (omega arith), empty-not t (i + 4) h)
+-- by the groups before the last and by what stands behind them
+pub unchecked_parts : (t : List ℕ) → unchecked t ≡ flat_map three_in (before_last t) ++ octets_in (last_group (last_of t))
+unfolding unchecked before_last last_of
+unchecked_parts [] = refl
+unchecked_parts (a ∷ []) = refl
+unchecked_parts (a ∷ b ∷ []) = refl
+unchecked_parts (a ∷ b ∷ c ∷ []) = refl
+unchecked_parts (a ∷ b ∷ c ∷ d ∷ []) = append-nil (octets_in (group_of a b c d))
+unchecked_parts (a ∷ b ∷ c ∷ d ∷ f ∷ r) = ap (λ (l : List ℕ). three_in (a ∷ b ∷ c ∷ d ∷ []) ++ l) (unchecked_parts (f ∷ r))
 
-pub unchecked-end : (t : List ℕ) (i : ℕ) → i + 4 ≡ length t → unchecked (drop i t) ≡ octets_of (group_at t i) ++ unchecked (drop (i + 4) t)
-unfolding unchecked
-unchecked-end t i h = rw (drop-four t i (omega arith), drop_of_length-le t {i = i + 4} (omega arith))
+-- how many octets they are
+length-threes : (qs : List (List ℕ)) → length (flat_map three_in qs) ≡ length qs * 3
+length-threes [] = refl
+length-threes (q ∷ qs) = omega (arith, length-threes qs)
 
-short-unchecked : (r : List ℕ) → length r < 4 → unchecked r ≡ []
-unfolding unchecked
-short-unchecked [] k = refl
-short-unchecked (a ∷ []) k = refl
-short-unchecked (a ∷ b ∷ []) k = refl
-short-unchecked (a ∷ b ∷ c ∷ []) k = refl
-short-unchecked (a ∷ b ∷ c ∷ d ∷ r) k = absurd (omega arith)
+pub unchecked_count : (t : List ℕ) → length (unchecked t) ≡ length (before_last t) * 3 + length (octets_in (last_group (last_of t)))
+unchecked_count t = ap length (unchecked_parts t) ∙ length-append (flat_map three_in (before_last t)) (octets_in (last_group (last_of t))) ∙ omega (arith, length-threes (before_last t))
 
--- a turn that writes: the group g stands at i, is h there, and n octets are written before it
-module _ (t : List ℕ) (i n : ℕ) (g h : Group) (e : g ≡ h) (k : unchecked (drop i t) ≡ octets_of h ++ unchecked (drop (i + 4) t)) where
-  here : unchecked (drop i t) ≡ octets_of g ++ unchecked (drop (i + 4) t)
-  here = k ∙ ap (λ (x : Group). octets_of x ++ unchecked (drop (i + 4) t)) (sym e)
+pub ruleset counting = (unchecked_count)
 
-  pub counted : n + length (octets_of g) + length (unchecked (drop (i + 4) t)) ≡ n + length (unchecked (drop i t))
-  counted = rw here (omega (arith, length-append (octets_of g) (unchecked (drop (i + 4) t))))
+pub threes_count : (qs : List (List ℕ)) (i : ℕ) → i ≤ length qs → length (flat_map three_in (take i qs)) ≡ i * 3
+threes_count qs i h = length-threes (take i qs) ∙ ap (λ n. n * 3) (length-take-le i qs h)
 
-  pub filled : (o w : List ℕ) → sets o n (unchecked (drop i t)) ≡ w → sets (sets o n (octets_of g)) (n + length (octets_of g)) (unchecked (drop (i + 4) t)) ≡ w
-  filled o w inv = store-part o w (unchecked (drop i t)) (octets_of g) (unchecked (drop (i + 4) t)) n inv here
-
-pub all-filled : (t : List ℕ) (i n : ℕ) (o w : List ℕ) → sets o n (unchecked (drop i t)) ≡ w → length t < i + 4 → o ≡ w
-all-filled t i n o w inv h = rw (short-unchecked (drop i t) (simp length-drop (omega arith))) at inv
-
--- how many octets they are: of a text that is cut short, and of one whose last group stands at i
-pub length-short : (t : List ℕ) → length t < 4 → 0 ≡ length (unchecked t)
-length-short t h = rw (short-unchecked t h)
-
-pub length_cut : (t : List ℕ) → 0 < length t % 4 → length t / 4 * 3 ≡ length (unchecked t)
-unfolding unchecked
-length_cut [] h = refl
-length_cut (a ∷ []) h = refl
-length_cut (a ∷ b ∷ []) h = refl
-length_cut (a ∷ b ∷ c ∷ []) h = refl
-length_cut (a ∷ b ∷ c ∷ d ∷ []) h = absurd (omega arith)
-length_cut (a ∷ b ∷ c ∷ d ∷ e ∷ r) h = omega (arith, length_cut (e ∷ r) (omega arith))
-
-shifted : (a b c d : ℕ) (r : List ℕ) (j : ℕ) → group_at (a ∷ b ∷ c ∷ d ∷ r) (suc (suc (suc (suc j)))) ≡ group_at r j
-shifted a b c d r j = simp (add-one, add-two, add-three)
-
-pub length_whole : (t : List ℕ) (i : ℕ) → i + 4 ≡ length t → i % 4 ≡ 0 → i / 4 * 3 + length (octets_of (group_at t i)) ≡ length (unchecked t)
-unfolding unchecked
-length_whole [] i h z = absurd (omega arith)
-length_whole (a ∷ []) i h z = absurd (omega arith)
-length_whole (a ∷ b ∷ []) i h z = absurd (omega arith)
-length_whole (a ∷ b ∷ c ∷ []) i h z = absurd (omega arith)
-length_whole (a ∷ b ∷ c ∷ d ∷ []) zero h z = omega (arith, length-append (octets_of (group_of a b c d)) [])
-length_whole (a ∷ b ∷ c ∷ d ∷ []) (suc i) h z = absurd (omega arith)
-length_whole (a ∷ b ∷ c ∷ d ∷ e ∷ r) zero h z = absurd (omega arith)
-length_whole (a ∷ b ∷ c ∷ d ∷ e ∷ r) (suc zero) h z = absurd (omega arith)
-length_whole (a ∷ b ∷ c ∷ d ∷ e ∷ r) (suc (suc zero)) h z = absurd (omega arith)
-length_whole (a ∷ b ∷ c ∷ d ∷ e ∷ r) (suc (suc (suc zero))) h z = absurd (omega arith)
-length_whole (a ∷ b ∷ c ∷ d ∷ e ∷ r) (suc (suc (suc (suc j)))) h z =
-    omega (arith, sized _ _ (shifted a b c d (e ∷ r) j), length_whole (e ∷ r) j (omega arith) (omega arith))
-
-pub at-most-three : (g : Group) → length (octets_of g) ≤ 3
-at-most-three (One x) = omega arith
-at-most-three (Two x y) = omega arith
-at-most-three (Three x y z) = omega arith
-at-most-three Bad = omega arith
-
--- the buffer, where n octets fit and where they do not
-module _ (t o : List ℕ) (n : ℕ) (e : n ≡ length (unchecked t)) where
-  pub fitted : (o' : List ℕ) → n ≤ length o → o' ≡ sets o 0 (unchecked t) → o' ≡ unchecked_into t o
-  fitted o' h f = rw (le-leb (0 + length (unchecked t)) (length o) (omega arith)) f
-
-  pub not_fitted : length o < n → o ≡ unchecked_into t o
-  not_fitted h = rw (lt-leb (0 + length (unchecked t)) (length o) (omega arith))
+pub ruleset filling = (unchecked_count, unchecked_parts, threes_count, stores)
 
 -- of a text that is base64 they are what it stands for
 pub unchecked-octets : (t : List ℕ) → valid t ≡ true → unchecked t ≡ octets t
@@ -197,26 +184,43 @@ unchecked-octets (a ∷ b ∷ []) h = refl
 unchecked-octets (a ∷ b ∷ c ∷ []) h = refl
 unchecked-octets (a ∷ b ∷ c ∷ d ∷ []) h = refl
 unchecked-octets (a ∷ b ∷ c ∷ d ∷ e ∷ r) h =
-    let f = only a b c d (group_of a b c d) (e ∷ r) (cases a b c d) refl h in
-    ap (λ (g : Group). octets_of g ++ unchecked (e ∷ r)) (as_three a b c d refl refl refl refl f.0)
-    ∙ ap (λ (l : List ℕ). octets_of (group_of a b c d) ++ l) (unchecked-octets (e ∷ r) f.1)
+    let f = only a b c d (e ∷ r) (group_of a b c d) (cases a b c d) h in
+    ap (λ (g : Option Group). octets_in g ++ unchecked (e ∷ r)) (as_three a b c d refl refl refl refl f.0)
+    ∙ ap (λ (l : List ℕ). octets_in (group_of a b c d) ++ l) (unchecked-octets (e ∷ r) f.1)
+
+pub ruleset decoding = (unchecked-octets)
 
 pub unchecked-decoded : (t o : List ℕ) → valid t ≡ true → unchecked_into t o ≡ decoded_into t o
 unchecked-decoded t o h = rw (h, unchecked-octets t h)
 
--- the octets from an index on: those of the group there, then those of the rest; none where there are no four octets
-short-octets : (t : List ℕ) → length t < 4 → octets t ≡ []
-unfolding octets
-short-octets [] h = refl
-short-octets (a ∷ []) h = refl
-short-octets (a ∷ b ∷ []) h = refl
-short-octets (a ∷ b ∷ c ∷ []) h = refl
-short-octets (a ∷ b ∷ c ∷ d ∷ r) h = absurd (omega arith)
+-- ---- what a text stands for, group by group
 
+-- the octets of a group of four
+abbrev pub octets_at : List ℕ → List ℕ
+octets_at q = octets_in (group_of (get_or q 0 0) (get_or q 1 0) (get_or q 2 0) (get_or q 3 0))
+
+whole-groups : (t : List ℕ) (n : ℕ) → n ≡ length t / 4 → octets t ≡ flat_map octets_at (first_chunks 4 n t)
+unfolding octets
+whole-groups [] n e = rw e
+whole-groups (a ∷ []) n e = rw e
+whole-groups (a ∷ b ∷ []) n e = rw e
+whole-groups (a ∷ b ∷ c ∷ []) n e = rw e
+whole-groups (a ∷ b ∷ c ∷ d ∷ r) n e = go (length r / 4) (whole-groups r _ refl) (omega arith)
+  where
+    go : (m : ℕ) → octets r ≡ flat_map octets_at (first_chunks 4 m r) → n ≡ suc m → octets_in (group_of a b c d) ++ octets r ≡ flat_map octets_at (first_chunks 4 n (a ∷ b ∷ c ∷ d ∷ r))
+    go m ih k = rw k (ap (λ (l : List ℕ). octets_in (group_of a b c d) ++ l) ih)
+
+pub octets_groups : (t : List ℕ) → octets t ≡ flat_map octets_at (first_chunks 4 (length t / 4) t)
+octets_groups t = whole-groups t (length t / 4) refl
+
+-- from an index on: the octets of the group there, then those of the rest; none where there are no four octets
 module _ (t : List ℕ) (i : ℕ) where
-  pub octets-turn : i + 4 ≤ length t → octets (drop i t) ≡ octets_of (group_at t i) ++ octets (drop (i + 4) t)
+  pub octets-turn : i + 4 ≤ length t
+      → octets (drop i t) ≡ octets_in (group_of (get_or t i 0) (get_or t (i + 1) 0) (get_or t (i + 2) 0) (get_or t (i + 3) 0)) ++ octets (drop (i + 4) t)
   unfolding octets
   octets-turn h = rw (drop-four t i h)
 
   pub octets-end : length t < i + 4 → octets (drop i t) ≡ []
-  octets-end h = short-octets (drop i t) (simp length-drop (omega arith))
+  octets-end h =
+      let n : length (drop i t) / 4 ≡ 0 = omega (arith, length-drop i t) in
+      octets_groups (drop i t) ∙ rw n

@@ -4,14 +4,13 @@ use Rattle.octets.specs.Alphabet.{index}
 use Rattle.octets.specs.Lists.{is_empty}
 use Rattle.octets.specs.Answers
 use Rattle.octets.specs.Answers.{written}
-use Rattle.octets.specs.declared.Measured.{Measured}
-use Rattle.octets.specs.declared.Decoded.{Decoded}
-use Rattle.octets.specs.declared.Encoded.{Encoded}
+use Rattle.std.specs.Prelude.{Option, Some, None, Result}
+use Rattle.octets.specs.declared.DecodeError.{DecodeError}
 use Rattle.base64text.specs.declared.Group.{Group}
-use Rattle.base64text.specs.declared.Group.TheVariants.{One, Two, Three, Bad}
+use Rattle.base64text.specs.declared.Group.TheVariants.{One, Two, Three}
 
 -- RFC 4648 section 4, table 1, in the order of its numbers: five ranges, a line each. A-Z have 0 to 25, a-z 26 to 51, 0-9 52 to 61, "+" has 62, "/" 63.
--- The decoder numbers the octets range by range (`values` of src/lib.rt), the encoder has this list (`alphabet` there)
+-- The decoder numbers the octets range by range (`Values` of src/lib.rt), the encoder has this list (`Alphabet` there)
 unfoldable pub alphabet : List ℕ
 alphabet =
     65 ∷ 66 ∷ 67 ∷ 68 ∷ 69 ∷ 70 ∷ 71 ∷ 72 ∷ 73 ∷ 74 ∷ 75 ∷ 76 ∷ 77 ∷ 78 ∷ 79 ∷ 80 ∷ 81 ∷ 82 ∷ 83 ∷ 84 ∷ 85 ∷ 86 ∷ 87 ∷ 88 ∷ 89 ∷ 90
@@ -80,6 +79,9 @@ octet2 w = w / 2 ^ 8 % 2 ^ 8
 abbrev pub octet3 : ℕ → ℕ
 octet3 w = w % 2 ^ 8
 
+abbrev pub octets3 : ℕ → List ℕ
+octets3 w = octet1 w ∷ octet2 w ∷ octet3 w ∷ []
+
 -- what four octets a b c d of text stand for, of which p q r s are the numbers. RFC 4954 section 8: "4base64-char", or at the end
 -- "base64-terminal = (2base64-char "==") / (3base64-char "=")"; the bits that the padding leaves unused are zero (document 01)
 abbrev pub letters : ℕ → ℕ → ℕ → ℕ → Bool
@@ -91,43 +93,39 @@ letters3 p q r d = ltb p 64 && ltb q 64 && ltb r 64 && eqb d pad && eqb (joined 
 abbrev pub letters2 : ℕ → ℕ → ℕ → ℕ → Bool
 letters2 p q c d = ltb p 64 && ltb q 64 && eqb c pad && eqb d pad && eqb (joined p q 0 0 % 2 ^ 16) 0
 
-abbrev pub three : ℕ → Group
-three w = Three (octet1 w) (octet2 w) (octet3 w)
+abbrev pub three : ℕ → Option Group
+three w = Some (Three (octet1 w) (octet2 w) (octet3 w))
 
-abbrev pub two : ℕ → Group
-two w = Two (octet1 w) (octet2 w)
+abbrev pub two : ℕ → Option Group
+two w = Some (Two (octet1 w) (octet2 w))
 
-abbrev pub one : ℕ → Group
-one w = One (octet1 w)
+abbrev pub one : ℕ → Option Group
+one w = Some (One (octet1 w))
 
--- by their numbers and the last two of them
-abbrev pub grouped : ℕ → ℕ → ℕ → ℕ → ℕ → ℕ → Group
-grouped p q r s c d =
-    cond (letters p q r s) (three (joined p q r s))
-    (cond (letters3 p q r d) (two (joined p q r 0))
-    (cond (letters2 p q c d) (one (joined p q 0 0))
-    Bad))
-
-unfoldable pub group_of : ℕ → ℕ → ℕ → ℕ → Group
+unfoldable pub group_of : ℕ → ℕ → ℕ → ℕ → Option Group
 group_of a b c d =
     cond (letters (value a) (value b) (value c) (value d)) (three (joined (value a) (value b) (value c) (value d)))
     (cond (letters3 (value a) (value b) (value c) d) (two (joined (value a) (value b) (value c) 0))
     (cond (letters2 (value a) (value b) c d) (one (joined (value a) (value b) 0 0))
-    Bad))
+    None))
 
 -- the octets of a group
 abbrev pub octets_of : Group → List ℕ
 octets_of (One x) = x ∷ []
 octets_of (Two x y) = x ∷ y ∷ []
 octets_of (Three x y z) = x ∷ y ∷ z ∷ []
-octets_of Bad = []
+
+-- the octets of four octets of text, which may be no group
+abbrev pub octets_in : Option Group → List ℕ
+octets_in None = []
+octets_in (Some g) = octets_of g
 
 -- after four letters the text may go on, after "=" it ends
-abbrev pub follows : Group → Bool → Bool → Bool
-follows (One x) end rest = end
-follows (Two x y) end rest = end
-follows (Three x y z) end rest = rest
-follows Bad end rest = false
+abbrev pub follows : Option Group → Bool → Bool → Bool
+follows None end rest = false
+follows (Some (One x)) end rest = end
+follows (Some (Two x y)) end rest = end
+follows (Some (Three x y z)) end rest = rest
 
 -- whether a text is base64: "length a multiple of four, one or two "=" only at the end" (document 01)
 unfoldable pub valid : List ℕ → Bool
@@ -143,7 +141,7 @@ octets [] = []
 octets (a ∷ []) = []
 octets (a ∷ b ∷ []) = []
 octets (a ∷ b ∷ c ∷ []) = []
-octets (a ∷ b ∷ c ∷ d ∷ r) = octets_of (group_of a b c d) ++ octets r
+octets (a ∷ b ∷ c ∷ d ∷ r) = octets_in (group_of a b c d) ++ octets r
 
 -- what is read of a text whose form is not looked at: a group that more text follows is three octets by the numbers of its four octets of text, 64 for
 -- one that is no letter; only the last group is told by its form. Of a text that is base64 they are its octets (`unchecked-octets`)
@@ -152,7 +150,7 @@ unchecked [] = []
 unchecked (a ∷ []) = []
 unchecked (a ∷ b ∷ []) = []
 unchecked (a ∷ b ∷ c ∷ []) = []
-unchecked (a ∷ b ∷ c ∷ d ∷ r) = octets_of (cond (is_empty r) (group_of a b c d) (three (joined (value a) (value b) (value c) (value d)))) ++ unchecked r
+unchecked (a ∷ b ∷ c ∷ d ∷ r) = cond (is_empty r) (octets_in (group_of a b c d)) (octets3 (joined (value a) (value b) (value c) (value d))) ++ unchecked r
 
 -- how many "=" close a text
 unfoldable pub closing : List ℕ → ℕ
@@ -160,10 +158,10 @@ closing [] = 0
 closing (x ∷ l) = cond (eqb x pad && eqb (closing l) (length l)) (closing l + 1) (closing l)
 
 -- the answers of measure, decode and encode, and the buffers that decode and decode_unchecked leave
-abbrev pub measured : List ℕ → Measured
+abbrev pub measured : List ℕ → Option ℕ
 measured t = Answers.measured (valid t) (octets t)
 
-abbrev pub decoded : List ℕ → ℕ → Decoded
+abbrev pub decoded : List ℕ → ℕ → Result ℕ DecodeError
 decoded t m = Answers.decoded (valid t) (octets t) m
 
 abbrev pub decoded_into : List ℕ → List ℕ → List ℕ
@@ -172,5 +170,5 @@ decoded_into t buffer = Answers.decoded_into (valid t) (octets t) buffer
 abbrev pub unchecked_into : List ℕ → List ℕ → List ℕ
 unchecked_into t buffer = written buffer 0 (unchecked t)
 
-abbrev pub encoded : List ℕ → ℕ → ℕ → Encoded
+abbrev pub encoded : List ℕ → ℕ → ℕ → Option ℕ
 encoded l m at = Answers.encoded (encode l) m at

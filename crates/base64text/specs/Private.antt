@@ -1,34 +1,32 @@
--- What only the promises of private functions cite: the table of all octets' numbers, a text at an index, and its end.
-use Rattle.std.specs.Prelude.{Bool, List, ℕ, ◌+◌, ◌-◌, get_or}
+-- What only the promises of private functions, and what `Values` keeps, cite: the table of all octets' numbers, and a text as code takes it apart.
+use Rattle.std.specs.Prelude.{Bool, List, [], ◌∷◌, ℕ, ◌+◌, ◌-◌, get_or, Option, None}
 use Rattle.std.proofs.lemmas.List.Edits.{sets}
 use Rattle.octets.specs.Alphabet.{tabulated, table}
-use Rattle.octets.specs.declared.Measured.{Measured}
-use Rattle.base64text.specs.Base64.{value, joined, letters, three, group_of}
+use Rattle.base64text.specs.Base64.{value, letters, group_of}
 use Rattle.base64text.specs.declared.Group.{Group}
-use Rattle.base64text.specs.declared.Group.TheVariants.{One, Two, Three, Bad}
 
 -- the number of each of the 256 octets, 64 for one that is no letter
 unfoldable pub values : List ℕ
 values = table value
 
 -- a table with the octets from low to high numbered in turn, from a number on; the others stay as they are
-abbrev pub number_range : List ℕ → ℕ → ℕ → ℕ → List ℕ
+unfoldable pub number_range : List ℕ → ℕ → ℕ → ℕ → List ℕ
 number_range k low high number = sets k low (tabulated (λ v. v) (high + 1 - low) number)
 
--- the group that begins at index i of a text, and whether it is four letters
-abbrev pub group_at : List ℕ → ℕ → Group
-group_at t i = group_of (get_or t i 0) (get_or t (i + 1) 0) (get_or t (i + 2) 0) (get_or t (i + 3) 0)
+-- a text taken apart: the groups that more text follows, and what stands behind them
+unfoldable pub before_last : List ℕ → List (List ℕ)
+before_last (a ∷ b ∷ c ∷ d ∷ e ∷ r) = (a ∷ b ∷ c ∷ d ∷ []) ∷ before_last (e ∷ r)
+before_last _ = []
 
-abbrev pub letters_at : List ℕ → ℕ → Bool
-letters_at t i = letters (value (get_or t i 0)) (value (get_or t (i + 1) 0)) (value (get_or t (i + 2) 0)) (value (get_or t (i + 3) 0))
+unfoldable pub last_of : List ℕ → List ℕ
+last_of (a ∷ b ∷ c ∷ d ∷ e ∷ r) = last_of (e ∷ r)
+last_of l = l
 
--- what it is where its octets of text are taken for letters
-abbrev pub three_at : List ℕ → ℕ → Group
-three_at t i = three (joined (value (get_or t i 0)) (value (get_or t (i + 1) 0)) (value (get_or t (i + 2) 0)) (value (get_or t (i + 3) 0)))
+-- what stands behind them as a group: four octets are one
+abbrev pub last_group : List ℕ → Option Group
+last_group (a ∷ b ∷ c ∷ d ∷ []) = group_of a b c d
+last_group _ = None
 
--- the measure of a text whose last group is g, with n octets before it
-abbrev pub last : ℕ → Group → Measured
-last n (Three x y z) = Measured.Length (n + 3)
-last n (Two x y) = Measured.Length (n + 2)
-last n (One x) = Measured.Length (n + 1)
-last n Bad = Measured.Malformed
+-- whether the four octets of a group are letters
+abbrev pub letters_in : List ℕ → Bool
+letters_in q = letters (value (get_or q 0 0)) (value (get_or q 1 0)) (value (get_or q 2 0)) (value (get_or q 3 0))

@@ -1,4 +1,6 @@
 -- The calls of an exchange leave a connection's session as an exchange of that session does. Assumes nothing.
+use Rattle.std.specs.Prelude as Rust
+use Rattle.std.specs.Prelude.{Ok, Err}
 use mathlib.Core.Path.{◌≡◌, refl, sym, ap, ◌∙◌}
 use mathlib.Core.Bool.{Bool, true, false, cond, true≢false}
 use mathlib.Core.List.{List, [], ◌∷◌}
@@ -9,8 +11,7 @@ use Rattle.octets.specs.Ascii.{ascii}
 use Rattle.lines.specs.Mechanism.{padded}
 use Rattle.lines.specs.Verb.{verb}
 use Rattle.profile.specs.Numbers.{verdict_of}
-use Rattle.profile.specs.declared.numbers.ListedVerdict.{ListedVerdict}
-use Rattle.profile.specs.declared.numbers.ListedVerdict.TheVariants as ListedVerdicts
+use Rattle.profile.specs.declared.numbers.Verdict.{Verdict}
 use Rattle.profile.specs.declared.numbers.Refusal.{Refusal}
 use Rattle.profile.specs.declared.numbers.Refusal.TheVariants as Refusals
 use Rattle.session.specs.Exchange as Exchanges
@@ -73,9 +74,9 @@ unfolding step outcome
 short-refused i c e = ap (λ (b : Bool). result_in (cond b (refuses Refusals.ShortBuffer) (on_lent (lent i (request c)) (request c)))) e
 
 -- 5: a number that is no verdict's
-unlisted-stays : (i : Image) (t v : ℕ) (d r a : List ℕ) → verdict_of v ≡ ListedVerdicts.Unlisted → (step i (Calls.verdict t v d r a)).image ≡ i
+unlisted-stays : (i : Image) (t v : ℕ) (d r a : List ℕ) {j : Refusal} → verdict_of v ≡ Err j → (step i (Calls.verdict t v d r a)).image ≡ i
 unfolding step
-unlisted-stays i t v d r a e = go (comes i (Calls.verdict t v d r a) tt)
+unlisted-stays i t v d r a {j} e = go (comes i (Calls.verdict t v d r a) tt)
   where
     unmoved : {s z : Server} {x : Result} → Moves s (Requests.verdict t v d) x z → ⊥
     unmoved (Moves.judges u j b c w g f y) = let z : ◌≡◌ {A = ℕ} 0 1 = cc in omega arith
@@ -156,9 +157,9 @@ module _ (n : ℕ) (s : Session) (i : Image) (h : Reached n s i) where
   by-verdict : (t k : ℕ) (d r a : List ℕ) → After (Calls.verdict t k d r a)
   by-verdict t k d r a = unless-short (Calls.verdict t k d r a) (λ e. waiting e (is_waiting t h.0) refl)
     where
-      listed : is_short (Calls.verdict t k d r a) ≡ false → is_waiting t h.0 ≡ true → (v : ListedVerdict) → verdict_of k ≡ v → After (Calls.verdict t k d r a)
-      listed e w ListedVerdicts.Unlisted g = image-stays (step i (Calls.verdict t k d r a)).image (unlisted-stays i t k d r a g)
-      listed e w (ListedVerdicts.Known v) g =
+      listed : is_short (Calls.verdict t k d r a) ≡ false → is_waiting t h.0 ≡ true → (v : Rust.Result Verdict Refusal) → verdict_of k ≡ v → After (Calls.verdict t k d r a)
+      listed e w (Err j) g = image-stays (step i (Calls.verdict t k d r a)).image (unlisted-stays i t k d r a g)
+      listed e w (Ok v) g =
           let c = h.0 in
           let y = is-taken i n c h.1 in
           let x = after_verdict c.session t v d in

@@ -1,4 +1,5 @@
 -- A refused call alters nothing, and 2 and 4 are given exactly when document 01 says. Assumes nothing.
+use Rattle.std.specs.Prelude.{Result, Ok, Err}
 use mathlib.Core.Path.{◌≡◌, refl, sym, ap, ◌∙◌}
 use mathlib.Core.Bool.{Bool, true, false, cond, true≢false, false≢true}
 use mathlib.Core.List.{List, [], ◌∷◌}
@@ -10,8 +11,6 @@ use lib.Dec.{eqb, ltb}
 use Rattle.octets.proofs.Answers.{nothing_written}
 use Rattle.profile.specs.declared.numbers.Refusal.{Refusal}
 use Rattle.profile.specs.declared.numbers.Refusal.TheVariants as Refusals
-use Rattle.profile.specs.declared.numbers.ListedVerdict.{ListedVerdict}
-use Rattle.profile.specs.declared.numbers.ListedVerdict.TheVariants as ListedVerdicts
 use Rattle.profile.specs.declared.numbers.Verdict.{Verdict}
 use Rattle.profile.specs.declared.numbers.Verdict.TheVariants as Verdicts
 use Rattle.profile.specs.declared.Reply.TheVariants as Replies
@@ -179,11 +178,11 @@ judged-refusal s t v d k w e = go s.phase w e
     go (Phases.Awaiting j) h f = absurd (false≢true h)
     go (Phases.Waiting u j) h f = data-judged j (given v d) (rw h at f)
 
-ticket-result : (s : Server) (t : ℕ) (v : ListedVerdict) (d : List ℕ) (x : Option Connection) → found (is_waiting t) s.slots ≡ x
+ticket-result : (s : Server) (t : ℕ) (v : Result Verdict Refusal) (d : List ℕ) (x : Option Connection) → found (is_waiting t) s.slots ≡ x
     → result_in (verdict_found s t v d x) ≡ refused Refusals.NoTicket → x ≡ none
 ticket-result s t v d none f e = refl
-ticket-result s t ListedVerdicts.Unlisted d (some c) f e = let z : ◌≡◌ {A = ℕ} 0 1 = cc in absurd (omega arith)
-ticket-result s t (ListedVerdicts.Known v) d (some c) f e =
+ticket-result s t (Err r) d (some c) f e = let z : ◌≡◌ {A = ℕ} 0 1 = cc in absurd (omega arith)
+ticket-result s t (Ok v) d (some c) f e =
     let k : Refusals.NoTicket ≡ Refusals.NotListed =
     judged-refusal c.session t v d Refusals.NoTicket (found-waits t c s.slots f)
     (settled-refusal (after_verdict c.session t v d).answer _ _ _ Refusals.NoTicket e) in

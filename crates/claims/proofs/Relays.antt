@@ -1,4 +1,6 @@
 -- What a MAIL is passed on with. Assumes nothing.
+use Rattle.std.specs.Prelude as Rust
+use Rattle.std.specs.Prelude.{Some, None, Ok, Err}
 use mathlib.Core.Path.{◌≡◌, refl, sym, ap, ◌∙◌}
 use mathlib.Core.Bool.{Bool, true, false, cond}
 use mathlib.Core.List.{List, []}
@@ -73,7 +75,7 @@ module _ (i : Image) (n : ℕ) (l : List ℕ) (j : Identity) (k : ℕ) (x y : Li
       go false (some s) t h = on-found s t (found (is_numbered n) s.slots) refl h
 
 -- what the server has of the mechanism that a line names
-abbrev offer : Server → Connection → List ℕ → Offer
+abbrev offer : Server → Connection → List ℕ → Rust.Option Offer
 offer s c l = offered s.mechanisms (padded (mechanism_text (view c.session l) l))
 
 -- ---- for whom

@@ -9,11 +9,12 @@ use Rattle.octets.proofs.Words.{same_refl, before-cut, after-cut, holds-cut}
 use Rattle.base64text.specs.Base64 as Base64
 use Rattle.base64text.proofs.Laws.{clean, same-octet}
 use Rattle.profile.specs.declared.Profile.{Profile}
+use Rattle.std.specs.Prelude.{Option, Some, None, Result, Ok, Err}
 use Rattle.lines.specs.Alike.{Alike, auth_line}
 use Rattle.lines.specs.Auth.{auth, initial_text}
 use Rattle.lines.specs.Command.{command, understood}
 use Rattle.lines.specs.declared.auth.Auth.{Auth}
-use Rattle.lines.specs.declared.auth.Auth.TheVariants.{Malformed, Alone, Initial}
+use Rattle.lines.specs.declared.auth.Auth.TheVariants.{Alone, Initial}
 use Rattle.lines.specs.declared.command.Command.{Command}
 use Rattle.lines.specs.declared.command.Command.TheVariants as Commands
 use Rattle.lines.specs.declared.verb.Verb.TheVariants as Verbs
@@ -45,16 +46,16 @@ whole_in r v = rw (clean r v).3 (go (same (capitals (before space r)) (ascii "AU
 
 -- ---- the text that an AUTH line's reading points to
 
-abbrev pick : Auth → List ℕ → List ℕ
-pick Malformed r = []
-pick (Alone to) r = []
-pick (Initial to from n) r = r
+abbrev pick : Option Auth → List ℕ → List ℕ
+pick None r = []
+pick (Some (Alone to)) r = []
+pick (Some (Initial to from n)) r = r
 
 module _ (p : Profile) (a m r : List ℕ) (e : capitals a ≡ ascii "AUTH") (f : holds space m ≡ false) (v : Base64.valid r ≡ true) where
-  reading : (k : Auth) → auth (auth_line a m r) ≡ k → initial_text k (auth_line a m r) ≡ pick k r
-  reading Malformed h = refl
-  reading (Alone to) h = refl
-  reading (Initial to from n) h = initial-text a m r to from n e f v h
+  reading : (k : Option Auth) → auth (auth_line a m r) ≡ k → initial_text k (auth_line a m r) ≡ pick k r
+  reading None h = refl
+  reading (Some (Alone to)) h = refl
+  reading (Some (Initial to from n)) h = initial-text a m r to from n e f v h
 
   picked-text : initial_text (auth_command (command p (auth_line a m r))) (auth_line a m r) ≡ pick (auth_command (command p (auth_line a m r))) r
   picked-text = rw (command-line p a (m ++ (space ∷ r)) e) (go (understood p Verbs.Auth (auth_line a m r)))
@@ -65,10 +66,10 @@ module _ (p : Profile) (a m r : List ℕ) (e : capitals a ≡ ascii "AUTH") (f :
       go false = refl
 
 -- texts of which one is read and the other likewise
-picked-octet : (k : Auth) (r q : List ℕ) → Alike r q → (j : ℕ) → letters_of j r ≡ letters_of j q → octet_at j (Base64.octets (pick k r)) ≡ octet_at j (Base64.octets (pick k q))
-picked-octet Malformed r q h j e = refl
-picked-octet (Alone to) r q h j e = refl
-picked-octet (Initial to from n) r q h j e = same-octet r q h.left h.right j e
+picked-octet : (k : Option Auth) (r q : List ℕ) → Alike r q → (j : ℕ) → letters_of j r ≡ letters_of j q → octet_at j (Base64.octets (pick k r)) ≡ octet_at j (Base64.octets (pick k q))
+picked-octet None r q h j e = refl
+picked-octet (Some (Alone to)) r q h j e = refl
+picked-octet (Some (Initial to from n)) r q h j e = same-octet r q h.left h.right j e
 
 -- ---- lines that are alike
 

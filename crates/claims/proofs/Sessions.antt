@@ -1,4 +1,6 @@
 -- Every open connection is stepped by the rules of its session. Assumes nothing.
+use Rattle.std.specs.Prelude as Rust
+use Rattle.std.specs.Prelude.{Ok, Err}
 use mathlib.Core.Path.{◌≡◌, refl, sym, ap, ◌∙◌}
 use mathlib.Core.Bool.{Bool, false, cond, true≢false}
 use mathlib.Core.Option.{none, some}
@@ -6,7 +8,7 @@ use Prim.Native.Nat.{ℕ}
 use lib.Dec.{eqb}
 use borrow.Author.Tests.{eq-eqb}
 use Rattle.profile.specs.Numbers.{verdict_of}
-use Rattle.profile.specs.declared.numbers.ListedVerdict.{ListedVerdict}
+use Rattle.profile.specs.declared.numbers.Verdict.{Verdict}
 use Rattle.profile.specs.declared.numbers.Refusal.{Refusal}
 use Rattle.session.specs.MailEnded.{after_mail}
 use Rattle.session.specs.Standing.{is_refused}
@@ -103,7 +105,7 @@ module _ (i : Image) (s : Server) (t : taken i ≡ some s) (n : ℕ) (c : Connec
       let q = found-waiting u (is_numbered n) c s.slots own w (parts s (taken-within i s t)).tickets in
       steps i (Calls.verdict u k d r a) tt n x (verdict_gives c d x) (with_session s (holding (is_waiting u)) c x)
       (outcome-plain i s t (Calls.verdict u k d r a) (refl, h)
-      ∙ (unfold on on_verdict in ap (verdict_found s u (verdict_of k) d) q ∙ ap (λ (j : ListedVerdict). verdict_found s u j d (some c)) g))
+      ∙ (unfold on on_verdict in ap (verdict_found s u (verdict_of k) d) q ∙ ap (λ (j : Rust.Result Verdict Refusal). verdict_found s u j d (some c)) g))
       (find-ticket u n y c s.slots q refl (parts s (taken-within i s t)).tickets
       ∙ ap (λ (b : Bool). cond b (some y) (found (is_numbered n) s.slots)) (ap (found_waits u) own ∙ w)
       ∙ ap some (renewed x))

@@ -1,4 +1,6 @@
 -- What a call that is not refused does to a connection, as far as its ticket and its name go. Assumes nothing.
+use Rattle.std.specs.Prelude as Rust
+use Rattle.std.specs.Prelude.{Some, None, Ok, Err}
 use mathlib.Core.Path.{◌≡◌, refl, sym, ap, ◌∙◌, subst}
 use mathlib.Core.Bool.{Bool, true, false, cond, ◌&&◌, false≢true}
 use mathlib.Core.List.{List}
@@ -9,8 +11,7 @@ use borrow.Author.Tests.{eqb-true, not-false}
 use Rattle.octets.proofs.Cases.{both, picked}
 use Rattle.lines.specs.Mechanism.{padded}
 use Rattle.profile.specs.Numbers.{verdict_number, verdict_of}
-use Rattle.profile.specs.declared.numbers.ListedVerdict.{ListedVerdict}
-use Rattle.profile.specs.declared.numbers.ListedVerdict.TheVariants as ListedVerdicts
+use Rattle.profile.specs.declared.numbers.Refusal.{Refusal}
 use Rattle.profile.specs.declared.numbers.Verdict.{Verdict}
 use Rattle.profile.specs.declared.numbers.Verdict.TheVariants as Verdicts
 use Rattle.session.specs.MailEnded.{after_mail}
@@ -133,14 +134,14 @@ waited {s} (Moves.judges t k d c v g f e) w = found-held t c s w f
 
 -- ---- a verdict
 
-abbrev is_grant : ListedVerdict → Bool
-is_grant (ListedVerdicts.Known v) = is_success v
-is_grant ListedVerdicts.Unlisted = false
+abbrev is_grant : Rust.Result Verdict Refusal → Bool
+is_grant (Ok v) = is_success v
+is_grant (Err r) = false
 
 success_number : (k : ℕ) → is_grant (verdict_of k) ≡ eqb k (verdict_number Verdicts.Success)
 success_number k = go (eqb k 1) refl
   where
-    Not : ListedVerdict → Type 0
+    Not : Rust.Result Verdict Refusal → Type 0
     Not v = is_grant v ≡ false
 
     go : (b : Bool) → eqb k 1 ≡ b → is_grant (verdict_of k) ≡ b
@@ -151,7 +152,7 @@ success_number k = go (eqb k 1) refl
         (picked Not (eqb k 2) _ _ refl (picked Not (eqb k 3) _ _ refl (picked Not (eqb k 4) _ _ refl (picked Not (eqb k 5) _ _ refl refl)))))
 
 -- who is borne after a verdict that is not refused
-judged-bears : (s : Session) (t k : ℕ) (v : Verdict) (d : List ℕ) → verdict_of k ≡ ListedVerdicts.Known v → waits_on t s.phase ≡ true → bears s ≡ none
+judged-bears : (s : Session) (t k : ℕ) (v : Verdict) (d : List ℕ) → verdict_of k ≡ Ok v → waits_on t s.phase ≡ true → bears s ≡ none
     → is_refused (after_verdict s t v d).answer ≡ false → bears (after_verdict s t v d).session ≡ cond (eqb k (verdict_number Verdicts.Success)) (some d) none
 unfolding grants
 judged-bears s t k v d g w b e =
@@ -221,7 +222,7 @@ turns {s} (Moves.steps m l c f e) w n = becomes (find-own m n y c s.slots f refl
     y : Connection
     y = record { session = (line_step s c l).session; number = c.number }
 
-    o : Offer
+    o : Rust.Option Offer
     o = offered s.mechanisms (padded (mechanism_text (view c.session l) l))
 
     go : (x : Bool) → eqb m n ≡ x

@@ -1,4 +1,5 @@
 -- "The cases marked P are proved of the definitions as a single table under one claim" (document 01): those of its "Both sides of each line".
+use Rattle.std.specs.Prelude.{Option, Some, None, Result, Ok, Err}
 use Rattle.std.specs.Prelude.{◌≡◌, Bool, true, false, cond, List, [], ◌∷◌, ◌++◌, map, ℕ}
 use Prim.Native.String.{String}
 use Rattle.octets.specs.Ascii.{ascii}
@@ -18,7 +19,6 @@ use Rattle.session.specs.declared.Session.{Session}
 use Rattle.session.specs.declared.answer.Answer.{Answer}
 use Rattle.session.specs.declared.answer.Answer.TheVariants as Answers
 use Rattle.session.specs.declared.view.Offer.{Offer}
-use Rattle.session.specs.declared.view.Offer.TheVariants as Offers
 
 -- what is put in
 pub data Input : Type 0 where
@@ -45,8 +45,8 @@ pub data Effect : Type 0 where
   hears : List ℕ → Effect
 
 -- a connection is protected, and the mechanism that its AUTH line names is client-first and needs protection; the ticket is 1
-abbrev pub offer : Offer
-offer = Offers.Present true true
+abbrev pub offer : Option Offer
+offer = Some (record { client_first = true; needs_protection = true })
 
 abbrev pub answer_effect : Profile → List ℕ → Answer → Effect
 answer_effect p o (Answers.Refused r) = refusal (refusal_number r)

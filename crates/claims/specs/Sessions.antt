@@ -1,9 +1,10 @@
 -- "sessions stepped": what a call comes to for an open connection of an image that is taken, whichever slot holds it. The rules themselves are
 -- those of crate session.
+use Rattle.std.specs.Prelude as Rust
+use Rattle.std.specs.Prelude.{Ok, Err}
 use Rattle.std.specs.Prelude.{◌≡◌, true, false, List, ℕ}
 use Rattle.std.proofs.Math.Option.{none, some}
 use Rattle.profile.specs.Numbers.{verdict_of}
-use Rattle.profile.specs.declared.numbers.ListedVerdict.TheVariants.{Known}
 use Rattle.profile.specs.declared.numbers.Refusal.{Refusal}
 use Rattle.profile.specs.declared.numbers.Verdict.{Verdict}
 use Rattle.session.specs.MailEnded.{after_mail}
@@ -40,7 +41,7 @@ module _ (i : Image) (s : Server) (n : ℕ) (c : Connection) where
 
   abbrev pub VerdictSteps : Type 0
   VerdictSteps =
-      (t k : ℕ) (v : Verdict) (d r a : List ℕ) → is_short (verdict t k d r a) ≡ false → verdict_of k ≡ Known v → is_waiting t c ≡ true
+      (t k : ℕ) (v : Verdict) (d r a : List ℕ) → is_short (verdict t k d r a) ≡ false → verdict_of k ≡ Ok v → is_waiting t c ≡ true
       → Steps n (after_verdict c.session t v d) (verdict_gives c d (after_verdict c.session t v d)) (step i (verdict t k d r a))
 
   abbrev pub MailSteps : Type 0

@@ -17,11 +17,11 @@ use Rattle.profile.specs.declared.numbers.Refusal.{Refusal}
 use Rattle.profile.specs.declared.numbers.Refusal.TheVariants.{ShortBuffer, NoTicket, NotListed}
 use Rattle.profile.specs.declared.numbers.Verdict.{Verdict}
 use Rattle.profile.specs.declared.numbers.Verdict.TheVariants.{Challenge, Success, Rejected, Temporary, Transition, Weak}
-use Rattle.profile.specs.declared.numbers.ListedVerdict.{ListedVerdict}
-use Rattle.profile.specs.declared.numbers.ListedVerdict.TheVariants.{Known, Unlisted}
+use Rattle.std.specs.Prelude as Rust
+use Rattle.std.specs.Prelude.{Some, None, Result, Ok, Err}
 use Rattle.lines.specs.declared.verb.Verb.TheVariants as Verbs
 use Rattle.lines.specs.declared.command.Command.TheVariants as Commands
-use Rattle.lines.specs.declared.response.Response.TheVariants as Responses
+use Rattle.lines.specs.declared.response.ResponseError.TheVariants as Responses
 use Rattle.lines.specs.Command.{limit, understood, command}
 use Rattle.lines.specs.Response.{response}
 use Rattle.lines.specs.Verb.{verb, verb_of}
@@ -82,7 +82,7 @@ by-phase (Waiting t k) a b c d = d t k refl
 abbrev long_view : Phase → View
 long_view Idle = Views.Command Commands.NotUnderstood
 long_view SignedIn = Views.Command Commands.NotUnderstood
-long_view (Awaiting k) = Views.Response Responses.TooLong
+long_view (Awaiting k) = Views.Response (Err Responses.TooLong)
 long_view (Waiting t k) = Views.Unread
 
 not-understood : (p : Profile) (l : List ℕ) → 12286 < length l → command p l ≡ Commands.NotUnderstood
@@ -190,10 +190,10 @@ refused-long (Waiting u k) s t v d h = rw (not-given v d h) (go (eqb u t))
     go false = refl
 
 module _ (d e : List ℕ) (h : 9210 < length d) (k : 9210 < length e) where
-  listed-long : (s : Server) (c : Connection) (t : ℕ) (v : ListedVerdict) → verdict_listed s c t d v ≡ verdict_listed s c t e v
+  listed-long : (s : Server) (c : Connection) (t : ℕ) (v : Result Verdict Refusal) → verdict_listed s c t d v ≡ verdict_listed s c t e v
   unfolding after_verdict
-  listed-long s c t Unlisted = refl
-  listed-long s c t (Known v) =
+  listed-long s c t (Err r) = refl
+  listed-long s c t (Ok v) =
       rw (refused-long c.session.phase c.session t v d h, refused-long c.session.phase c.session t v e k)
 
   verdict-long : (s : Server) (t v : ℕ) → on_verdict s t v d ≡ on_verdict s t v e

@@ -1,97 +1,73 @@
 // The lines of a script, as blocks of it come in.
-use crate::call;
-use crate::transcript::{flush, row, with_room};
+use crate::call::Desk;
+use crate::row::Row;
+use crate::transcript::Transcript;
 use script::command::read;
 use script::kept::Kept;
 use std::io;
-use umbrelnic::{ANSWER_OCTETS, REPLY_OCTETS};
 
-// The line that is read, and the index after the transcript in out.
-#[derive(Clone, Copy)]
-struct State {
-    kept: Kept,
-    at: usize,
+// So many octets of a script line are kept, at the least 12,287 of its text, in hexadecimal too: a text of more than 12,286 octets is too long
+// wherever a call takes one, whatever it holds.
+const KEPT: usize = 32768;
+
+// The desk of a script, the line that is read, and the transcript.
+#[derive(Drop)]
+pub(crate) struct Script {
+    pub desk: Desk,
+    pub line: [u8; KEPT],
+    pub kept: Kept,
+    pub transcript: Transcript,
 }
 
-// Runs each line that ends in a block and gives the one that the block ends in.
-pub(crate) fn run_block(
-    rt: &impl Print,
-    image: &mut [u8],
-    line: &mut [u8],
-    kept: Kept,
-    block: &[u8],
-    out: &mut [u8],
-) -> io::Result<Kept> {
-    let mut state = State { kept, at: 0 };
-    let mut from: usize = 0;
-    while from < block.len() {
-        let to = octets::find(block, from, b'\n');
-        state = state.with(
-            rt,
-            image,
-            line,
-            octets::part(block, from, to),
-            to < block.len(),
-            out,
-        )?;
-        from = to + 1;
-    }
-    flush(rt, out, state.at)?;
-    Ok(state.kept)
-}
-
-// A last line without LF is run.
-pub(crate) fn run_last(
-    rt: &impl Print,
-    image: &mut [u8],
-    line: &[u8],
-    kept: Kept,
-    out: &mut [u8],
-) -> io::Result<()> {
-    if 0 < kept.length {
-        let at = run_line(rt, image, line, kept, out, 0)?;
-        flush(rt, out, at)?;
-    }
-    Ok(())
-}
-
-impl State {
-    // With more octets of the line; where it ends, it is run.
-    fn with(
-        self,
-        rt: &impl Print,
-        image: &mut [u8],
-        line: &mut [u8],
-        more: &[u8],
-        ends: bool,
-        out: &mut [u8],
-    ) -> io::Result<State> {
-        let before = self.kept;
-        let kept = before.added(more, line);
-        if ends {
-            return Ok(State {
-                at: run_line(rt, image, line, kept, out, self.at)?,
-                kept: Kept::started(),
-            });
+impl Script {
+    pub(crate) fn new() -> Script {
+        Script {
+            desk: Desk::new(),
+            line: [0; KEPT],
+            kept: Kept::started(),
+            transcript: Transcript::new(),
         }
-        Ok(State { kept, at: self.at })
     }
-}
 
-// Runs a line, puts its transcript into out from an index on and gives the index after it.
-fn run_line(
-    rt: &impl Print,
-    image: &mut [u8],
-    line: &[u8],
-    kept: Kept,
-    out: &mut [u8],
-    at: usize,
-) -> io::Result<usize> {
-    let mut reply = [0u8; REPLY_OCTETS];
-    let mut answer = [0u8; ANSWER_OCTETS];
-    let rest = kept.rest;
-    let text = octets::part(line, 0, kept.length);
-    let printed = call::run(image, text, read(text, rest), &mut reply, &mut answer);
-    let from = with_room(rt, out, at)?;
-    Ok(row(out, from, printed, &reply, &answer))
+    // Runs each line that ends in a block, and keeps the one that the block ends in.
+    pub(crate) fn run_block(&mut self, rt: &impl Print, block: &[u8]) -> io::Result<()> {
+        for piece in block.split_inclusive(|x| *x == b'\n') {
+            match piece {
+                [text @ .., b'\n'] => {
+                    self.add(text);
+                    self.run_line(rt)?;
+                }
+                text => self.add(text),
+            }
+        }
+        self.transcript.flush(rt)
+    }
+
+    // A last line without LF is run.
+    pub(crate) fn run_last(&mut self, rt: &impl Print) -> io::Result<()> {
+        if self.kept.length == 0 {
+            return Ok(());
+        }
+        self.run_line(rt)?;
+        self.transcript.flush(rt)
+    }
+
+    // More octets of the line.
+    fn add(&mut self, more: &[u8]) {
+        self.kept = self.kept.added(more, &mut self.line);
+    }
+
+    // Runs the line, and begins the next.
+    fn run_line(&mut self, rt: &impl Print) -> io::Result<()> {
+        let text = octets::part(&self.line, 0, self.kept.length);
+        let row = match read(text, self.kept.rest) {
+            Some(command) => self.desk.run(text, command),
+            None => Row::Unreadable,
+        };
+        self.kept = Kept::started();
+        self.transcript.with_room(rt)?;
+        self.transcript
+            .row(row, &self.desk.reply, &self.desk.answer);
+        Ok(())
+    }
 }

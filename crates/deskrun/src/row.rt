@@ -5,9 +5,10 @@ ghost use Rattle.deskrun.specs.Row.{open_row, line_row, forward_row, query_row, 
 use profile::numbers::{Identity, Kind};
 use umbrelnic::{Borne, LineAnswer, Opened, Said};
 
+// Each is a line of docs/DESKRUN.md, so a script line that is no call and a refusal are rows among others, and no error.
 // A length is that of the text which stands in a buffer: of an address in the answer buffer, of a reply, which is printed without its CRLF, and
 // of a name in the reply buffer.
-#[derive(Clone, Copy)]
+#[derive(Clone, Copy, Debug, PartialEq, Eq)]
 pub(crate) enum Row {
     Unreadable,
     Opened(u64),
@@ -39,10 +40,10 @@ pub(crate) fn of_line(a: LineAnswer) -> Row
     if a.refusal != 0 {
         return Row::Refused(a.refusal);
     }
-    if a.kind == Kind::Forward.number() {
+    if a.kind == u64::from(Kind::Forward) {
         return of_forward(a);
     }
-    if a.kind == Kind::Query.number() {
+    if a.kind == u64::from(Kind::Query) {
         return of_query(a);
     }
     Row::Reply {
@@ -54,13 +55,13 @@ pub(crate) fn of_line(a: LineAnswer) -> Row
 fn of_forward(a: LineAnswer) -> Row
     ensures { result ≡ forward_row a }
 {
-    if a.identity == Identity::Null.number() {
+    if a.identity == u64::from(Identity::Null) {
         return Row::PassNull;
     }
-    if a.identity == Identity::Absent.number() {
+    if a.identity == u64::from(Identity::Absent) {
         return Row::PassNone;
     }
-    if a.identity == Identity::Address.number() {
+    if a.identity == u64::from(Identity::Address) {
         return Row::PassAddress { length: a.length };
     }
     Row::Pass
@@ -116,8 +117,5 @@ pub(crate) fn of_done(refusal: u64) -> Row
 fn without_crlf(length: u64) -> u64
     ensures { result ≡ length - 2 }
 {
-    if length < 2 {
-        return 0;
-    }
-    length - 2
+    length.saturating_sub(2)
 }

@@ -1,5 +1,7 @@
 -- Keys that differ, told on a walk from the last slot to the first. A hash table has the slots that were met, each in a bucket of its key; only a
 -- slot whose key was met, or whose buckets are all taken, is compared with those after it. Assumes nothing.
+use Rattle.std.specs.Prelude as Rust
+use Rattle.std.specs.Prelude.{Some, None, is_none}
 use mathlib.Core.Path.{◌≡◌, refl, sym, ap, ◌∙◌}
 use mathlib.Core.Bool.{Bool, true, false, cond, not, ◌&&◌, true≢false}
 use mathlib.Core.List.{List, [], ◌∷◌}
@@ -8,8 +10,8 @@ use Prim.Native.Nat.{ℕ, zero, suc, ◌+◌, ◌/◌, ◌%◌, ◌<◌, ◌≤�
 use native.Mathlib.Omega.{arith}
 use native.Mathlib.Numerals.{add-one}
 use native.Mathlib.Decide.{ℕ_discrete}
-use lib.Dec.{eqb, ltb}
-use borrow.Author.Tests.{eqb-true, eq-eqb, ne_eqb, lt-ltb, ltb-true, ltb-false}
+use lib.Dec.{eqb}
+use borrow.Author.Tests.{eqb-true, eq-eqb, ne_eqb}
 use lib.ListN.{length, get_or, set, drop, length-set, drop_of_length-le}
 use lib.Seq.{drop-cons, get_or-set_same, get_or-set_other}
 use Rattle.octets.specs.Lists.{every}
@@ -36,22 +38,6 @@ every_true (x ∷ xs) = every_true xs
 
 -- ---- the buckets of a key
 
-abbrev in_table : List ℕ → Bool
-in_table ks = every (λ k. ltb k buckets) ks
-
-digits_in : (n x : ℕ) → in_table (digits n x) ≡ true
-unfolding every digits
-digits_in zero x = refl
-digits_in (suc n) x = go (eqb x 0) (digits_in n (x / buckets))
-  where
-    go : (b : Bool) → in_table (digits n (x / buckets)) ≡ true → in_table (cond b [] (x % buckets ∷ digits n (x / buckets))) ≡ true
-    go true h = refl
-    go false h = rw (lt-ltb (x % buckets) buckets (omega arith)) h
-
-buckets_in : (m : ℕ) → in_table (buckets_of m) ≡ true
-unfolding every first_bucket
-buckets_in m = rw (lt-ltb (m % 509) buckets (omega arith)) (digits_in (spread m) (spread m))
-
 -- the digits do not hang on how many there may be
 digits_same : (n k x : ℕ) → x ≤ n → x ≤ k → digits n x ≡ digits k x
 unfolding digits
@@ -75,29 +61,33 @@ digits-end (suc x) h = absurd (omega arith)
 
 -- ---- the table: n, what its buckets have; o, where a slot has its key
 
+none_is : (f : Rust.Option ℕ) → is_none f ≡ true → f ≡ None
+none_is None e = refl
+none_is (Some k) e = absurd (true≢false (sym e))
+
 module _ (l : List ℕ) (o : ℕ) (n : List ℕ) (m : ℕ) where
-  empty_in : (ks : List ℕ) → in_table ks ≡ true → (k : ℕ) → empty_bucket l o n m ks ≡ k → k < buckets → get_or n k 0 ≡ 0
-  unfolding every empty_bucket
-  empty_in [] a k e h = absurd (omega (arith, e))
-  empty_in (j ∷ ks) a k e h = go (eqb (get_or n j 0) 0) refl (is_of l o (get_or n j 0) m) e (λ g. empty_in ks (both (ltb j buckets) (in_table ks) a).1 k g h)
+  empty_in : (ks : List ℕ) (k : ℕ) → empty_bucket l o n m ks ≡ Some k → get_or n k 0 ≡ 0
+  unfolding empty_bucket
+  empty_in [] k e = let z : ◌≡◌ {A = ℕ} 0 1 = cc in absurd (omega arith)
+  empty_in (j ∷ ks) k e = go (eqb (get_or n j 0) 0) refl (is_of l o (get_or n j 0) m) e (empty_in ks k)
     where
-      go : (b : Bool) → eqb (get_or n j 0) 0 ≡ b → (c : Bool) → cond b j (cond c buckets (empty_bucket l o n m ks)) ≡ k
-          → (empty_bucket l o n m ks ≡ k → get_or n k 0 ≡ 0) → get_or n k 0 ≡ 0
-      go true f c g r = rw (← g) (eqb-true (get_or n j 0) 0 f)
-      go false f true g r = absurd (omega (arith, g))
+      go : (b : Bool) → eqb (get_or n j 0) 0 ≡ b → (c : Bool) → cond b (Some j) (cond c None (empty_bucket l o n m ks)) ≡ Some k
+          → (empty_bucket l o n m ks ≡ Some k → get_or n k 0 ≡ 0) → get_or n k 0 ≡ 0
+      go true f c g r = let z : j ≡ k = cc in rw (← z) (eqb-true (get_or n j 0) 0 f)
+      go false f true g r = let z : ◌≡◌ {A = ℕ} 0 1 = cc in absurd (omega arith)
       go false f false g r = r g
 
   -- the search: k, the bucket looked at; x, the number whose digits are to come; w, what the whole comes to
   module _ (k : ℕ) (e : k ≡ first_bucket m) where
-    pub first-empty : get_or n k 0 ≡ 0 → k ≡ empty_bucket l o n m (buckets_of m)
+    pub first-empty : get_or n k 0 ≡ 0 → Some k ≡ empty_bucket l o n m (buckets_of m)
     unfolding empty_bucket
-    first-empty z = e ∙ sym (rw (eq-eqb (get_or n (first_bucket m) 0) 0 (ap (λ (j : ℕ). get_or n j 0) (sym e) ∙ z)))
+    first-empty z = ap Some e ∙ sym (rw (eq-eqb (get_or n (first_bucket m) 0) 0 (ap (λ (j : ℕ). get_or n j 0) (sym e) ∙ z)))
 
     module _ (z : get_or n k 0 ≡ 0 → ⊥) where
       taken : eqb (get_or n (first_bucket m) 0) 0 ≡ false
       taken = ne_eqb (get_or n (first_bucket m) 0) 0 (λ q. z (ap (λ (j : ℕ). get_or n j 0) e ∙ q))
 
-      pub first-met : is_of l o (get_or n k 0) m ≡ true → buckets ≡ empty_bucket l o n m (buckets_of m)
+      pub first-met : is_of l o (get_or n k 0) m ≡ true → None ≡ empty_bucket l o n m (buckets_of m)
       unfolding empty_bucket
       first-met f = sym (rw (taken, ← e, f))
 
@@ -105,16 +95,16 @@ module _ (l : List ℕ) (o : ℕ) (n : List ℕ) (m : ℕ) where
       unfolding empty_bucket
       first-other f x s = rw (taken, ← e, f, s)
 
-  module _ (w x : ℕ) (inv : w ≡ empty_bucket l o n m (digits x x)) where
+  module _ (w : Rust.Option ℕ) (x : ℕ) (inv : w ≡ empty_bucket l o n m (digits x x)) where
     module _ (p : 0 < x) where
       turn : w ≡ empty_bucket l o n m (x % buckets ∷ digits (x / buckets) (x / buckets))
       turn = inv ∙ ap (empty_bucket l o n m) (digits-turn x p)
 
-      pub next-empty : get_or n (x % buckets) 0 ≡ 0 → x % buckets ≡ w
+      pub next-empty : get_or n (x % buckets) 0 ≡ 0 → Some (x % buckets) ≡ w
       unfolding empty_bucket
       next-empty z = sym (turn ∙ rw (eq-eqb (get_or n (x % buckets) 0) 0 z))
 
-      pub next-met : (get_or n (x % buckets) 0 ≡ 0 → ⊥) → is_of l o (get_or n (x % buckets) 0) m ≡ true → buckets ≡ w
+      pub next-met : (get_or n (x % buckets) 0 ≡ 0 → ⊥) → is_of l o (get_or n (x % buckets) 0) m ≡ true → None ≡ w
       unfolding empty_bucket
       next-met z f = sym (turn ∙ rw (ne_eqb (get_or n (x % buckets) 0) 0 z, f))
 
@@ -122,64 +112,54 @@ module _ (l : List ℕ) (o : ℕ) (n : List ℕ) (m : ℕ) where
       unfolding empty_bucket
       next-other z f = turn ∙ rw (ne_eqb (get_or n (x % buckets) 0) 0 z, f)
 
-    pub next-end : x ≤ 0 → buckets ≡ w
+    pub next-end : x ≤ 0 → None ≡ w
     unfolding empty_bucket
     next-end h = sym (inv ∙ rw (digits-end x h))
 
-  -- a bucket that the search gave is not taken where there is none
-  pub none-empty : (k : ℕ) → k ≡ empty_bucket l o n m (buckets_of m) → (ltb k buckets && eqb (get_or n k 0) 0) ≡ false → buckets ≤ k
-  none-empty k e f = go (ltb k buckets) refl
-    where
-      go : (b : Bool) → ltb k buckets ≡ b → buckets ≤ k
-      go false g = ltb-false k buckets g
-      go true g =
-          let z : get_or n k 0 ≡ 0 = empty_in (buckets_of m) (buckets_in m) k (sym e) (ltb-true k buckets g) in
-          absurd (true≢false (sym (rw (g, eq-eqb (get_or n k 0) 0 z)) ∙ f))
-
   -- one more slot in an empty bucket: a key that was met stays so
   module _ (k v : ℕ) (z : get_or n k 0 ≡ 0) where
-    met-stays : (ks : List ℕ) → in_table ks ≡ true → empty_bucket l o n m ks ≡ buckets → empty_bucket l o (set n k v) m ks ≡ buckets
-    unfolding every empty_bucket
-    met-stays [] a e = refl
-    met-stays (j ∷ ks) a e =
-        let c = both (ltb j buckets) (in_table ks) a in
-        go (eqb (get_or n j 0) 0) refl (is_of l o (get_or n j 0) m) refl (ltb-true j buckets c.0) e (met-stays ks c.1)
+    met-stays : (ks : List ℕ) → empty_bucket l o n m ks ≡ None → empty_bucket l o (set n k v) m ks ≡ None
+    unfolding empty_bucket
+    met-stays [] e = refl
+    met-stays (j ∷ ks) e = go (eqb (get_or n j 0) 0) refl (is_of l o (get_or n j 0) m) refl e (met-stays ks)
       where
         other : eqb (get_or n j 0) 0 ≡ false → get_or (set n k v) j 0 ≡ get_or n j 0
         other f = get_or-set_other n k j v 0 (λ q. true≢false (sym (eq-eqb (get_or n j 0) 0 (ap (λ (i : ℕ). get_or n i 0) q ∙ z)) ∙ f))
 
-        go : (b : Bool) → eqb (get_or n j 0) 0 ≡ b → (d : Bool) → is_of l o (get_or n j 0) m ≡ d → j < buckets → cond b j (cond d buckets (empty_bucket l o n m ks)) ≡ buckets
-            → (empty_bucket l o n m ks ≡ buckets → empty_bucket l o (set n k v) m ks ≡ buckets) → empty_bucket l o (set n k v) m (j ∷ ks) ≡ buckets
-        go true f d g b e r = absurd (omega (arith, e, b))
-        go false f true g b e r = rw (other f, f, g)
-        go false f false g b e r = rw (other f, f, g) (r e)
+        go : (b : Bool) → eqb (get_or n j 0) 0 ≡ b → (d : Bool) → is_of l o (get_or n j 0) m ≡ d → cond b (Some j) (cond d None (empty_bucket l o n m ks)) ≡ None
+            → (empty_bucket l o n m ks ≡ None → empty_bucket l o (set n k v) m ks ≡ None) → empty_bucket l o (set n k v) m (j ∷ ks) ≡ None
+        go true f d g e r = let y : ◌≡◌ {A = ℕ} 0 1 = cc in absurd (omega arith)
+        go false f true g e r = rw (other f, f, g)
+        go false f false g e r = rw (other f, f, g) (r e)
 
   -- the key of the slot itself was met then
   module _ (k v : ℕ) (s : k < length n) (w : eqb v 0 ≡ false) (q : is_of l o v m ≡ true) where
-    met-own : (ks : List ℕ) → in_table ks ≡ true → empty_bucket l o n m ks ≡ k → k < buckets → empty_bucket l o (set n k v) m ks ≡ buckets
-    unfolding every empty_bucket
-    met-own [] a e h = refl
-    met-own (j ∷ ks) a e h =
-        go (ℕ_discrete j k) (eqb (get_or n j 0) 0) refl (is_of l o (get_or n j 0) m) refl e (λ g. met-own ks (both (ltb j buckets) (in_table ks) a).1 g h)
+    met-own : (ks : List ℕ) → empty_bucket l o n m ks ≡ Some k → empty_bucket l o (set n k v) m ks ≡ None
+    unfolding empty_bucket
+    met-own [] e = refl
+    met-own (j ∷ ks) e = go (ℕ_discrete j k) (eqb (get_or n j 0) 0) refl (is_of l o (get_or n j 0) m) refl e (met-own ks)
       where
         here : (i : ℕ) → i ≡ k → get_or (set n k v) i 0 ≡ v
         here i p = rw p (get_or-set_same n k v 0 s)
 
-        go : Dec (j ≡ k) → (b : Bool) → eqb (get_or n j 0) 0 ≡ b → (c : Bool) → is_of l o (get_or n j 0) m ≡ c → cond b j (cond c buckets (empty_bucket l o n m ks)) ≡ k
-            → (empty_bucket l o n m ks ≡ k → empty_bucket l o (set n k v) m ks ≡ buckets) → empty_bucket l o (set n k v) m (j ∷ ks) ≡ buckets
+        go : Dec (j ≡ k) → (b : Bool) → eqb (get_or n j 0) 0 ≡ b → (c : Bool) → is_of l o (get_or n j 0) m ≡ c → cond b (Some j) (cond c None (empty_bucket l o n m ks)) ≡ Some k
+            → (empty_bucket l o n m ks ≡ Some k → empty_bucket l o (set n k v) m ks ≡ None) → empty_bucket l o (set n k v) m (j ∷ ks) ≡ None
         go (yes p) b f c g e r = rw (here j p, w, q)
-        go (no p) true f c g e r = absurd (p e)
-        go (no p) false f true g e r = absurd (omega (arith, e))
+        go (no p) true f c g e r = let z : j ≡ k = cc in absurd (p z)
+        go (no p) false f true g e r = let y : ◌≡◌ {A = ℕ} 0 1 = cc in absurd (omega arith)
         go (no p) false f false g e r = rw (get_or-set_other n k j v 0 p, f, g) (r e)
 
   -- a key that was not met is none of those that were
-  unmet : (empty_bucket l o n m (buckets_of m) ≡ buckets → ⊥) → (k : Option ℕ) → is_met l o n k ≡ true → not (has k m) ≡ true
-  unmet f none e = refl
-  unmet f (some u) e = go (eqb u m) refl
+  unmet : (k : ℕ) → Some k ≡ empty_bucket l o n m (buckets_of m) → (u : Option ℕ) → is_met l o n u ≡ true → not (has u m) ≡ true
+  unmet k f none e = refl
+  unmet k f (some u) e = go (eqb u m) refl
     where
       go : (c : Bool) → eqb u m ≡ c → not (eqb u m) ≡ true
       go false h = rw h
-      go true h = absurd (f (eqb-true (empty_bucket l o n m (buckets_of m)) buckets (ap (λ (j : ℕ). eqb (empty_bucket l o n j (buckets_of j)) buckets) (sym (eqb-true u m h)) ∙ e)))
+      go true h =
+          let g = none_is (empty_bucket l o n m (buckets_of m)) (ap (λ (j : ℕ). is_none (empty_bucket l o n j (buckets_of j))) (sym (eqb-true u m h)) ∙ e) in
+          let y : ◌≡◌ {A = ℕ} 0 1 = cc in
+          absurd (omega arith)
 
 -- ---- the walk
 
@@ -213,49 +193,40 @@ module _ (l : List ℕ) where
       unfolding is_new
       new_none is = rw is (sym (every_true (drop (j + 1) (slots_at l))))
 
-      -- one that has a key m; k is its empty bucket, if there is one
-      module _ (m : ℕ) (is : key (get_or (slots_at l) j none) ≡ some m) (k : ℕ) (e : k ≡ empty_bucket l o n m (buckets_of m)) where
-        stays : (v : ℕ) → k < buckets → (y : Slot) → is_met l o n (key y) ≡ true → is_met l o (set n k v) (key y) ≡ true
-        stays v b y = go (key y)
-          where
-            go : (u : Option ℕ) → is_met l o n u ≡ true → is_met l o (set n k v) u ≡ true
-            go none f = refl
-            go (some u) f =
-                eq-eqb (empty_bucket l o (set n k v) u (buckets_of u)) buckets
-                (met-stays l o n u k v (empty_in l o n m (buckets_of m) (buckets_in m) k (sym e) b) (buckets_of u) (buckets_in u)
-                (eqb-true (empty_bucket l o n u (buckets_of u)) buckets f))
+      -- one that has a key m
+      module _ (m : ℕ) (is : key (get_or (slots_at l) j none) ≡ some m) where
+        -- it takes its empty bucket, k, which has v then
+        module _ (k : ℕ) (e : Some k ≡ empty_bucket l o n m (buckets_of m)) where
+          stays : (v : ℕ) (y : Slot) → is_met l o n (key y) ≡ true → is_met l o (set n k v) (key y) ≡ true
+          stays v y = go (key y)
+            where
+              go : (u : Option ℕ) → is_met l o n u ≡ true → is_met l o (set n k v) u ≡ true
+              go none f = refl
+              go (some u) f = ap is_none (met-stays l o n u k v (empty_in l o n m (buckets_of m) k (sym e)) (buckets_of u) (none_is (empty_bucket l o n u (buckets_of u)) f))
 
-        -- it takes the bucket, v
-        module _ (b : k < buckets) where
           pub new-found : true ≡ is_new key (slots_at l) j
           unfolding is_new
           new-found =
-              rw is (sym (every-imp (λ y. is_met l o n (key y)) (λ y. not (has (key y) m)) (λ y. unmet l o n m (λ q. omega (arith, q, e)) (key y)) (drop (j + 1) (slots_at l)) h.met))
+              rw is (sym (every-imp (λ y. is_met l o n (key y)) (λ y. not (has (key y) m)) (λ y. unmet l o n m k e (key y)) (drop (j + 1) (slots_at l)) h.met))
 
-          pub met-taken : (v : ℕ) → eqb v 0 ≡ false → is_of l o v m ≡ true → Met key o l j (set n k v)
+          pub met-taken : k < buckets → (v : ℕ) → eqb v 0 ≡ false → is_of l o v m ≡ true → Met key o l j (set n k v)
           unfolding every x rest
-          met-taken v w q =
+          met-taken b v w q =
               record {
                 bound = omega (arith, h.bound);
                 size = simp length-set h.size;
-                met = rw (front, is, eq-eqb (empty_bucket l o (set n k v) m (buckets_of m)) buckets (met-own l o n m k v (omega (arith, h.size)) w q (buckets_of m) (buckets_in m) (sym e) b))
-                    (every-imp (λ y. is_met l o n (key y)) (λ y. is_met l o (set n k v) (key y)) (stays v b) rest h.met);
+                met = rw (front, is, met-own l o n m k v (omega (arith, h.size)) w q (buckets_of m) (sym e))
+                    (every-imp (λ y. is_met l o n (key y)) (λ y. is_met l o (set n k v) (key y)) (stays v) rest h.met);
               }
 
         -- it is compared
-        module _ (b : buckets ≤ k) (c : k ≤ buckets) where
-          pub new-compared : every (λ y. not (has (key y) m)) (drop (j + 1) (slots_at l)) ≡ is_new key (slots_at l) j
-          unfolding is_new
-          new-compared = rw is
+        pub new-compared : every (λ y. not (has (key y) m)) (drop (j + 1) (slots_at l)) ≡ is_new key (slots_at l) j
+        unfolding is_new
+        new-compared = rw is
 
-          pub met-compared : Met key o l j n
-          unfolding every x rest
-          met-compared =
-              record {
-                bound = omega (arith, h.bound);
-                size = h.size;
-                met = rw (front, is, eq-eqb (empty_bucket l o n m (buckets_of m)) buckets (omega (arith, e))) h.met;
-              }
+        pub met-compared : None ≡ empty_bucket l o n m (buckets_of m) → Met key o l j n
+        unfolding every x rest
+        met-compared e = record { bound = omega (arith, h.bound); size = h.size; met = rw (front, is, sym e) h.met }
 
 module _ (key : Slot → Option ℕ) (xs : List Slot) where
   -- the slots from j on differ where the first is new and those after it differ

@@ -1,12 +1,13 @@
 -- An open connection judged where it stands, field by field as numbers. l: octets; o: each is below 256. Assumes nothing.
 use mathlib.Core.Path.{◌≡◌, refl, sym, ap, ◌∙◌}
-use mathlib.Core.Bool.{Bool, true, false, ◌&&◌, and_assoc, and_comm, and-true, and-false}
+use mathlib.Core.Bool.{Bool, true, false, ◌&&◌, and_assoc, and-true}
 use mathlib.Core.List.{List}
-use Prim.Native.Nat.{ℕ, zero, suc, ◌+◌, ◌*◌, ◌/◌, ◌%◌, ◌<◌}
+use Prim.Native.Nat.{ℕ, zero, suc, ◌+◌, ◌<◌}
 use native.Mathlib.Omega.{arith}
 use native.Mathlib.Nat.{add_assoc}
-use lib.Dec.{eqb, leb, ltb, eqb-suc-zero, eqb-zero-suc}
-use borrow.Author.Tests.{eq-eqb, ne_eqb, lt-leb, le-ltb}
+use lib.Dec.{eqb, leb, ltb}
+use Rattle.std.proofs.lemmas.Bool.Decides.{nat_tests}
+use borrow.Author.Tests.{eq-eqb}
 use lib.ListN.{get_or, replicate}
 use Rattle.octets.specs.Lists.{same}
 use Rattle.octets.proofs.Padding.{run, padded-run}
@@ -31,25 +32,16 @@ use Rattle.image.specs.Private.{header_fits, phase_fits, follows_at, runs_at, na
 use Rattle.image.proofs.Lawful.{any-lawful, phase-lawful}
 use Rattle.image.proofs.Offsets.{phase-size, phase-get, session-get, connection-get, mechanism-get, header-get}
 use Rattle.image.proofs.Parts.{header-below}
+use Rattle.image.proofs.Values.{zero-here}
 use Rattle.image.proofs.Pieces.{places-shared, number-zero, zeros-split}
-
-zero-here : (x : ℕ) → eqb 0 x ≡ eqb x 0
-zero-here zero = refl
-zero-here (suc x) = eqb-zero-suc x ∙ sym (eqb-suc-zero x)
 
 -- ---- one octet, 0 or 1
 
 flag_same : (x : ℕ) → eqb (bit (is_one x)) x ≡ leb x 1
-flag_same zero = refl
-flag_same (suc zero) = refl
-flag_same (suc (suc x)) =
-    rw (ne_eqb (suc (suc x)) 1 (λ e. omega arith), ne_eqb 0 (suc (suc x)) (λ e. omega arith), lt-leb (suc (suc x)) 1 (omega arith))
+flag_same x = grind (arith, nat_tests)
 
 profile-same : (x : ℕ) → eqb (profile_number (profile_at x)) x ≡ leb x 1
-profile-same zero = refl
-profile-same (suc zero) = refl
-profile-same (suc (suc x)) =
-    rw (ne_eqb (suc (suc x)) 1 (λ e. omega arith), ne_eqb 0 (suc (suc x)) (λ e. omega arith), lt-leb (suc (suc x)) 1 (omega arith))
+profile-same x = grind (arith, nat_tests)
 
 -- ---- numbers
 
@@ -57,23 +49,15 @@ profile-same (suc (suc x)) =
 number-self : (l : List ℕ) → ((i : ℕ) → get_or l i 0 < 256) → (k at : ℕ) → stands_at (put_number k (get_number k l at)) l at ≡ true
 unfolding stands_at put_number get_number
 number-self l o zero at = refl
-number-self l o (suc k) at =
-    let x = get_or l at 0 in
-    let n = get_number k l (at + 1) in
-    let b : x < 256 = o at in
-    let m : (x + 256 * n) % 256 ≡ x = omega arith in
-    let d : (x + 256 * n) / 256 ≡ n = omega arith in
-    rw (m, d, eq-eqb x x refl) (number-self l o k (at + 1))
+number-self l o (suc k) at = grind (arith, nat_tests, o at, number-self l o k (at + 1))
 
 -- ---- a phase
 
 at-most-zero : (k : ℕ) → eqb k 0 ≡ leb k 0
-at-most-zero zero = refl
-at-most-zero (suc k) = eqb-suc-zero k ∙ sym (lt-leb (suc k) 0 (omega arith))
+at-most-zero k = grind (arith, nat_tests)
 
 below_one : (t : ℕ) → eqb t 0 ≡ ltb t 1
-below_one zero = refl
-below_one (suc t) = eqb-suc-zero t ∙ sym (le-ltb (suc t) 1 (omega arith))
+below_one t = grind (arith, nat_tests)
 
 -- w n: whether n stands there as the ticket
 phase-cases : (x k t b : ℕ) (w : ℕ → Bool) → w 0 ≡ eqb t 0 → w t ≡ true
@@ -81,28 +65,10 @@ phase-cases : (x k t b : ℕ) (w : ℕ → Bool) → w 0 ≡ eqb t 0 → w t ≡
     && (is_below (phase_ticket (phase_at x k t)) b && sent_within (phase_at x k t)))
     ≡ phase_fits x k t b
 unfolding phase_fits
-phase-cases zero k t b w e f = rw (e, zero-here k, at-most-zero k, below_one t) (and-true (leb k 0 && ltb t 1))
-phase-cases (suc zero) k t b w e f = rw (e, zero-here k, at-most-zero k, below_one t) (and-true (leb k 0 && ltb t 1))
-phase-cases (suc (suc zero)) k t b w e f = rw (e, eq-eqb k k refl, below_one t) (and_comm (ltb t 1) (leb k most_challenges))
-phase-cases (suc (suc (suc zero))) k t b w e f = rw (f, eq-eqb k k refl) (and_comm (ltb t b) (leb k most_challenges))
-phase-cases (suc (suc (suc (suc x)))) k t b w e f =
-    let y = suc (suc (suc (suc x))) in
-    rw (
-      ne_eqb y 1 (λ h. omega arith),
-      ne_eqb y 2 (λ h. omega arith),
-      ne_eqb y 3 (λ h. omega arith),
-      ne_eqb 0 y (λ h. omega arith),
-      lt-leb y 3 (omega arith),
-    )
+phase-cases x k t b w e f = grind (arith, nat_tests)
 
 signed-at : (x k t : ℕ) → signed_in (phase_at x k t) ≡ eqb x 1
-signed-at zero k t = refl
-signed-at (suc zero) k t = refl
-signed-at (suc (suc zero)) k t = refl
-signed-at (suc (suc (suc zero))) k t = refl
-signed-at (suc (suc (suc (suc x)))) k t =
-    let y = suc (suc (suc (suc x))) in
-    rw (ne_eqb y 1 (λ h. omega arith), ne_eqb y 2 (λ h. omega arith), ne_eqb y 3 (λ h. omega arith))
+signed-at x k t = grind (arith, nat_tests)
 
 module _ (l : List ℕ) (at : ℕ) where
   phase-stands : (p : Phase) → stands_at (phase.put p) l at
@@ -148,10 +114,16 @@ module _ (l : List ℕ) (at : ℕ) where
       ∙ padded-run graphic longest_name (name_at l at) refl (get_array-length octet longest_name l at) (omega arith)
 
   pub name-signed : graphic (get_or l at 0) ≡ true → (runs_at l 32 at && runs_at l 32 (at + 31)) ≡ name_fits l true at
-  name-signed e = rw e at name_runs
+  name-signed e = grind (arith, name_runs)
 
   pub name-none : graphic (get_or l at 0) ≡ false → false ≡ name_fits l true at
-  name-none e = rw e at name_runs
+  name-none e = grind (arith, name_runs)
+
+  pub name_signed : graphic (get_or l at 0) ≡ true → (runs_at l 32 at && runs_at l 32 (at + 31)) ≡ name_fits l true at
+  name_signed e = rw e at name_runs
+
+  pub name_none : graphic (get_or l at 0) ≡ false → false ≡ name_fits l true at
+  name_none e = rw e at name_runs
 
 -- ---- a session from its phase on
 
@@ -159,26 +131,21 @@ module _ (l : List ℕ) (at : ℕ) where
   -- no ticket is eight zeros
   no-ticket : ltb (get_number 8 l (at + 2)) 1 ≡ stands_at (replicate 8 0) l (at + 2)
   unfolding put_number
-  no-ticket = sym (below_one (get_number 8 l (at + 2))) ∙ sym (number-zero l 8 (at + 2))
+  no-ticket = grind (arith, below_one, number-zero l 8 (at + 2))
 
   pub phased_waiting : (b : ℕ) → get_or l at 0 ≡ 3
       → (leb (get_or l (at + 1) 0) most_challenges && (ltb (get_number 8 l (at + 2)) b && stands_at (replicate longest_name 0) l (at + phase_size))) ≡ phased_fits l b at
   unfolding phased_fits phase_fits name_fits
-  phased_waiting b e =
-      rw e (sym (and_assoc (leb (get_or l (at + 1) 0) most_challenges) (ltb (get_number 8 l (at + 2)) b) (stands_at (replicate longest_name 0) l (at + phase_size))))
+  phased_waiting b e = grind (arith, nat_tests)
 
   pub phased_signed_in : (b : ℕ) → get_or l at 0 ≡ 1
       → (leb (get_or l (at + 1) 0) 0 && (stands_at (replicate 8 0) l (at + 2) && name_fits l true (at + phase_size))) ≡ phased_fits l b at
   unfolding phased_fits phase_fits
-  phased_signed_in b e =
-      rw (e, no-ticket) (sym (and_assoc (leb (get_or l (at + 1) 0) 0) (stands_at (replicate 8 0) l (at + 2)) (name_fits l true (at + phase_size))))
+  phased_signed_in b e = grind (arith, nat_tests, no-ticket)
 
   pub phased_awaiting : (b : ℕ) → get_or l at 0 ≡ 2 → (leb (get_or l (at + 1) 0) most_challenges && stands_at (replicate (8 + longest_name) 0) l (at + 2)) ≡ phased_fits l b at
   unfolding phased_fits phase_fits name_fits
-  phased_awaiting b e =
-      let f : at + 2 + 8 ≡ at + phase_size = omega arith in
-      rw (e, no-ticket, zeros-split l 8 longest_name (at + 2), f)
-      (sym (and_assoc (leb (get_or l (at + 1) 0) most_challenges) (stands_at (replicate 8 0) l (at + 2)) (stands_at (replicate longest_name 0) l (at + phase_size))))
+  phased_awaiting b e = grind (arith, nat_tests, no-ticket, zeros-split l 8 longest_name (at + 2))
 
   pub phased_idle : (b : ℕ) → get_or l at 0 ≡ 0 → stands_at (replicate (1 + (8 + longest_name)) 0) l (at + 1) ≡ phased_fits l b at
   unfolding phased_fits phase_fits name_fits stands_at
@@ -192,35 +159,28 @@ module _ (l : List ℕ) (at : ℕ) where
 
   pub phased_other : (b : ℕ) → (get_or l at 0 ≡ 3 → ⊥) → (get_or l at 0 ≡ 1 → ⊥) → (get_or l at 0 ≡ 2 → ⊥) → (get_or l at 0 ≡ 0 → ⊥) → false ≡ phased_fits l b at
   unfolding phased_fits phase_fits
-  phased_other b n3 n1 n2 n0 = rw (lt-leb (get_or l at 0) 3 (above (get_or l at 0) n3 n1 n2 n0))
-    where
-      above : (x : ℕ) → (x ≡ 3 → ⊥) → (x ≡ 1 → ⊥) → (x ≡ 2 → ⊥) → (x ≡ 0 → ⊥) → 3 < x
-      above zero n3 n1 n2 n0 = absurd (n0 refl)
-      above (suc zero) n3 n1 n2 n0 = absurd (n1 refl)
-      above (suc (suc zero)) n3 n1 n2 n0 = absurd (n2 refl)
-      above (suc (suc (suc zero))) n3 n1 n2 n0 = absurd (n3 refl)
-      above (suc (suc (suc (suc x)))) n3 n1 n2 n0 = omega arith
+  phased_other b n3 n1 n2 n0 = grind (arith, nat_tests)
+
+pub ruleset phases = (phased_waiting, phased_signed_in, phased_awaiting, phased_idle, phased_other)
 
 -- ---- a connection
 
 gather : (n s f c b e w : Bool) → ((n && s) && (f && ((c && (b && e)) && w))) ≡ ((f && c) && (n && (b && (s && (e && w)))))
-gather n s false c b e w = and-false (n && s)
-gather n s true false b e w = and-false (n && s)
-gather false s true true b e w = refl
-gather true false true true b e w = sym (and-false b)
-gather true true true true b e w = and_assoc b e w
+gather n s f c b e w = grind arith
 
 none-sealed : (n s r : Bool) → s ≡ false → false ≡ ((n && s) && r)
-none-sealed n s r e = rw (e, and-false n)
+none-sealed n s r e = grind arith
 
 all-before : (n s f p : Bool) → n ≡ true → s ≡ true → f ≡ true → p ≡ ((n && s) && (f && p))
-all-before n s f p en es ef = rw (en, es, ef)
+all-before n s f p en es ef = grind arith
+
+first_sealed : (n s f p : Bool) → ((n && s) && (f && p)) ≡ (s && (n && (f && p)))
+first_sealed true s f p = refl
+first_sealed false true f p = refl
+first_sealed false false f p = refl
 
 flags : (p q r s c : Bool) → (p && (q && (r && (s && (c && true))))) ≡ ((p && (q && (r && s))) && c)
-flags true true true s c = rw (and-true c)
-flags true true false s c = refl
-flags true false r s c = refl
-flags false q r s c = refl
+flags p q r s c = grind arith
 
 module _ (l : List ℕ) (at : ℕ) where
   session-stands : (x : Session) → stands_at (session.put x) l at
@@ -281,18 +241,21 @@ module _ (l : List ℕ) (o : (i : ℕ) → get_or l i 0 < 256) (h : Header) (at 
 
   -- the tests one after another
   pub connection_unsealed : h.sealed ≡ false → false ≡ connection_fits l h at
-  connection_unsealed e = none-sealed (ltb (get_number 8 l at) h.connection) h.sealed (flagged && phased_fits l h.ticket (at + connection_session + session_phase)) e ∙ connection-fits
+  connection_unsealed e = grind (arith, connection-fits)
 
   pub connection-late : ltb (get_number 8 l at) h.connection ≡ false → false ≡ connection_fits l h at
-  connection-late e = rw e at connection-fits
+  connection-late e = grind (arith, connection-fits)
 
   pub connection_unflagged : flagged ≡ false → false ≡ connection_fits l h at
-  connection_unflagged e = rw (e, and-false (ltb (get_number 8 l at) h.connection && h.sealed)) at connection-fits
+  connection_unflagged e = grind (arith, connection-fits)
 
   pub connection_phased : h.sealed ≡ true → ltb (get_number 8 l at) h.connection ≡ true → flagged ≡ true
       → phased_fits l h.ticket (at + connection_session + session_phase) ≡ connection_fits l h at
-  connection_phased es en ef =
-      all-before (ltb (get_number 8 l at) h.connection) h.sealed flagged (phased_fits l h.ticket (at + connection_session + session_phase)) en es ef ∙ connection-fits
+  connection_phased es en ef = grind (arith, connection-fits)
+
+  pub connection_is : connection_fits l h at ≡ (h.sealed && (ltb (get_number 8 l at) h.connection && (flagged && phased_fits l h.ticket (at + connection_session + session_phase))))
+  connection_is =
+      sym connection-fits ∙ first_sealed (ltb (get_number 8 l at) h.connection) h.sealed flagged (phased_fits l h.ticket (at + connection_session + session_phase))
 
 -- ---- a header, and a mechanism
 
@@ -303,8 +266,7 @@ module _ (l : List ℕ) (at : ℕ) where
   header-stands h = simp (stands_at-append, put_number-length, add_assoc)
 
   header-canonical : ((i : ℕ) → get_or l i 0 < 256) → canonical_at header l at ≡ leb (get_or l (at + 16) 0) 1
-  header-canonical o =
-      rw (header-get l at, header-stands, number-self l o 8 at, number-self l o 8 (at + 8), flag_same (get_or l (at + 16) 0)) (and-true (leb (get_or l (at + 16) 0) 1))
+  header-canonical o = grind (arith, header-get, header-stands, number-self, flag_same)
 
   mechanism-stands : (m : Mechanism) → stands_at (mechanism.put m) l at
       ≡ (stands_at (put_array octet 20 m.name) l at && (eqb (bit m.client_first) (get_or l (at + 20) 0) && (eqb (bit m.needs_protection) (get_or l (at + 21) 0) && true)))
@@ -315,6 +277,6 @@ module _ (l : List ℕ) (at : ℕ) where
   mechanism-canonical =
       sym (rw (mechanism-get l at, mechanism-stands, octets-canonical l at 20, flag_same (get_or l (at + 20) 0), flag_same (get_or l (at + 21) 0), and-true (leb (get_or l (at + 21) 0) 1)))
 
-pub header-fits : (l : List ℕ) → ((i : ℕ) → get_or l i 0 < 256) → leb (get_or l 16 0) 1 ≡ header_fits l
+pub header_tests : (l : List ℕ) → ((i : ℕ) → get_or l i 0 < 256) → leb (get_or l 16 0) 1 ≡ header_fits l
 unfolding header_fits
-header-fits l o = rw (header-canonical l 0 o, header-below l o) (sym (and-true (leb (get_or l 16 0) 1)))
+header_tests l o = rw (header-canonical l 0 o, header-below l o) (sym (and-true (leb (get_or l 16 0) 1)))

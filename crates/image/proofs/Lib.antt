@@ -1,5 +1,6 @@
 -- The laws of images.
 pub mod Lawful
+pub mod Values
 pub mod Offsets
 pub mod Taken
 pub mod Places
@@ -12,7 +13,6 @@ pub mod Table
 pub mod Walk
 pub mod Split
 pub mod Stores
-pub mod Guards
 pub mod Search
 pub mod Index
 pub mod Readings

@@ -10,7 +10,8 @@ use lib.ListN.{get_or, take, replicate}
 use Rattle.codec.specs.Codec.{octet, put_octet, put_number, get_number, put_array, get_array, put_option, get_option, bit, is_one}
 use Rattle.codec.specs.Stored.{stored}
 use Rattle.codec.proofs.Lawful.{put_octet-length, put_number-length, put_array-length}
-use Rattle.codec.proofs.Stored.{fields}
+use Rattle.codec.proofs.Stored.{fields, stored_one}
+use Rattle.codec.proofs.Arrays.{octets-put}
 use Rattle.profile.specs.Numbers.{profile_number}
 use Rattle.session.specs.Limits.{longest_name}
 use Rattle.session.specs.declared.Phase.{Phase}
@@ -21,6 +22,7 @@ use Rattle.server.specs.declared.Header.{Header}
 use Rattle.server.specs.declared.Mechanism.{Mechanism}
 use Rattle.image.specs.Sizes.{phase_size, session_phase, session_name, session_size, connection_session, connection_size, slot_size, mechanism_size, header_size, server_mechanisms, server_slots, image_size}
 use Rattle.image.specs.Layout.{profile_at, profile, phase_at, phase_number, phase_sent, phase_waits, phase, session, connection, slot, mechanism, header, server}
+use Rattle.image.proofs.Values.{stored_part}
 use Rattle.image.proofs.Lawful.{phase-lawful, any-lawful}
 
 pub phase-size : phase.size ≡ phase_size
@@ -144,3 +146,6 @@ pub server-get : (l : List ℕ) → server.get l 0
     }
 unfolding server
 server-get l = simp (header-size, mechanism-size)
+
+-- each part by its fields, as `records` reads and writes it
+pub ruleset parts = (stored_part, stored_one, octets-put, phase-get, phase-put, session-get, session-put, connection-get, connection-put, slot-put, free-put, mechanism-get, mechanism-put, header-get, header-put)

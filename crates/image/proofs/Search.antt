@@ -1,4 +1,8 @@
 -- A search by index joined to the first connection that passes a test and to the slots with another in its place. Assumes nothing.
+use Rattle.std.specs.Prelude.{Option, Some, None}
+use Rattle.std.specs.List.{position_from}
+use Rattle.std.proofs.lemmas.List.Quantifiers.{position-Some}
+use Rattle.std.proofs.lemmas.Iterator.Adapters.{position_from-zero}
 use mathlib.Core.Path.{◌≡◌, refl, sym, ap, ◌∙◌}
 use mathlib.Core.Bool.{false≢true, Bool, true, false, cond}
 use mathlib.Core.Option.{none, some}
@@ -14,103 +18,89 @@ use Rattle.server.specs.Limits.{most_connections}
 use Rattle.server.specs.Server.{Slot, with_slots}
 use Rattle.server.specs.Slots.{is_free, holding, any_free, found, replaced}
 use Rattle.server.specs.declared.Connection.{Connection}
-use Rattle.image.specs.declared.Found.{Found}
-use Rattle.image.specs.declared.Found.TheVariants.{At, Nothing}
 use Rattle.image.specs.Sizes.{image_size}
 use Rattle.image.specs.Layout.{connection, slot}
 use Rattle.image.specs.Image.{Image, image_of}
-use Rattle.image.specs.InPlace.{is_taken, is_whole, read_server, slot_offset, has_slot, connection_read, index_from, index_of, slot_found, slot_written}
+use Rattle.image.specs.InPlace.{is_taken, is_whole, read_server, slot_offset, has_slot, connection_read, index_of, slot_found, slot_written}
 use Rattle.image.proofs.Offsets.{slot-get}
-use Rattle.image.proofs.Places.{place-bound, slots_length, slot-place}
+use Rattle.image.proofs.Places.{slots_length, slot-place}
 use Rattle.image.proofs.Split.{taken_own}
 use Rattle.image.proofs.Stores.{slot-written}
 
 -- ---- lists
 
-abbrev shift : Found → Found
-shift (At i) = At (suc i)
-shift Nothing = Nothing
+abbrev shift : Option ℕ → Option ℕ
+shift (Some i) = Some (suc i)
+shift None = None
 
 module _ {A : Type 0} (p : A → Bool) where
-  place-shift : (k : ℕ) (xs : List A) → index_from p (k + 1) xs ≡ shift (index_from p k xs)
-  unfolding index_from
+  place-shift : (k : ℕ) (xs : List A) → position_from p (k + 1) xs ≡ shift (position_from p k xs)
   place-shift k [] = refl
   place-shift k (x ∷ xs) = go (p x) (place-shift (k + 1) xs)
     where
-      go : (b : Bool) → index_from p (k + 1 + 1) xs ≡ shift (index_from p (k + 1) xs)
-          → cond b (At (k + 1)) (index_from p (k + 1 + 1) xs) ≡ shift (cond b (At k) (index_from p (k + 1) xs))
-      go true r = ap At (add-one k)
+      go : (b : Bool) → position_from p (k + 1 + 1) xs ≡ shift (position_from p (k + 1) xs)
+          → cond b (Some (k + 1)) (position_from p (k + 1 + 1) xs) ≡ shift (cond b (Some k) (position_from p (k + 1) xs))
+      go true r = ap Some (add-one k)
       go false r = r
 
-  index-first : (x : A) (xs : List A) → index_of p (x ∷ xs) ≡ cond (p x) (At 0) (shift (index_of p xs))
-  unfolding index_from
-  index-first x xs = ap (λ (f : Found). cond (p x) (At 0) f) (place-shift 0 xs)
+  index-first : (x : A) (xs : List A) → index_of p (x ∷ xs) ≡ cond (p x) (Some 0) (shift (index_of p xs))
+  index-first x xs = ap (λ (f : Option ℕ). cond (p x) (Some 0) f) (place-shift 0 xs)
 
   -- where something is found: at the first, or later
-  at_first : {X : Type 0} (x : A) (xs : List A) (i : ℕ) → index_of p (x ∷ xs) ≡ At i
-      → (p x ≡ true → i ≡ 0 → X) → (p x ≡ false → (j : ℕ) → index_of p xs ≡ At j → i ≡ suc j → X) → X
+  at_first : {X : Type 0} (x : A) (xs : List A) (i : ℕ) → index_of p (x ∷ xs) ≡ Some i
+      → (p x ≡ true → i ≡ 0 → X) → (p x ≡ false → (j : ℕ) → index_of p xs ≡ Some j → i ≡ suc j → X) → X
   at_first {X} x xs i e f g = go (p x) refl (index_of p xs) refl (sym (index-first x xs) ∙ e)
     where
-      go : (b : Bool) → p x ≡ b → (w : Found) → index_of p xs ≡ w → cond b (At 0) (shift w) ≡ At i → X
+      go : (b : Bool) → p x ≡ b → (w : Option ℕ) → index_of p xs ≡ w → cond b (Some 0) (shift w) ≡ Some i → X
       go true eb w ew h = let z : 0 ≡ i = cc in f eb (sym z)
-      go false eb (At j) ew h = let z : suc j ≡ i = cc in g eb j ew (sym z)
-      go false eb Nothing ew h = let z : ◌≡◌ {A = ℕ} 0 1 = cc in absurd (omega arith)
+      go false eb (Some j) ew h = let z : suc j ≡ i = cc in g eb j ew (sym z)
+      go false eb None ew h = cc
 
   -- where nothing is found
-  nowhere : (x : A) (xs : List A) → index_of p (x ∷ xs) ≡ Nothing → (p x ≡ false) × (index_of p xs ≡ Nothing)
-  nowhere x xs e = go (p x) refl (index_of p xs) refl (sym (index-first x xs) ∙ e)
-    where
-      go : (b : Bool) → p x ≡ b → (w : Found) → index_of p xs ≡ w → cond b (At 0) (shift w) ≡ Nothing → (p x ≡ false) × (index_of p xs ≡ Nothing)
-      go true eb w ew h = let z : ◌≡◌ {A = ℕ} 0 1 = cc in absurd (omega arith)
-      go false eb (At j) ew h = let z : ◌≡◌ {A = ℕ} 0 1 = cc in absurd (omega arith)
-      go false eb Nothing ew h = (eb, ew)
+  nowhere : (x : A) (xs : List A) → index_of p (x ∷ xs) ≡ None → (p x ≡ false) × (index_of p xs ≡ None)
+  nowhere x xs e = grind (arith, index-first x xs)
 
-  pub index-passes : (xs : List A) (i : ℕ) (d : A) → index_of p xs ≡ At i → p (get_or xs i d) ≡ true
-  unfolding index_from
-  index-passes [] i d e = let z : ◌≡◌ {A = ℕ} 0 1 = cc in absurd (omega arith)
-  index-passes (x ∷ xs) i d e =
-      at_first x xs i e (λ h z. rw z h) (λ h j f z. rw z (index-passes xs j d f))
+  pub index-passes : (xs : List A) (i : ℕ) (d : A) → index_of p xs ≡ Some i → p (get_or xs i d) ≡ true
+  index-passes xs i d e = (position-Some p xs i d (position_from-zero p xs ∙ e)).1
 
 module _ (q : Connection → Bool) where
-  pub index-found : (xs : List Slot) (i : ℕ) → index_of (holding q) xs ≡ At i → found q xs ≡ get_or xs i none
-  unfolding index_from found
-  index-found [] i e = let z : ◌≡◌ {A = ℕ} 0 1 = cc in absurd (omega arith)
+  pub index-found : (xs : List Slot) (i : ℕ) → index_of (holding q) xs ≡ Some i → found q xs ≡ get_or xs i none
+  unfolding found
+  index-found [] i e = cc
   index-found (none ∷ xs) i e = at_first (holding q) none xs i e (λ h z. absurd (false≢true h)) (λ h j f z. rw z (index-found xs j f))
   index-found (some c ∷ xs) i e = at_first (holding q) (some c) xs i e (λ h z. rw (z, h)) (λ h j f z. rw (z, h) (index-found xs j f))
 
-  pub index-absent : (xs : List Slot) → index_of (holding q) xs ≡ Nothing → found q xs ≡ none
+  pub index-absent : (xs : List Slot) → index_of (holding q) xs ≡ None → found q xs ≡ none
   unfolding found
   index-absent [] e = refl
   index-absent (none ∷ xs) e = index-absent xs (nowhere (holding q) none xs e).1
   index-absent (some c ∷ xs) e = let n = nowhere (holding q) (some c) xs e in rw n.0 (index-absent xs n.1)
 
   -- nothing is found by index exactly where there is no such connection
-  pub absent-index : (xs : List Slot) → found q xs ≡ none → index_of (holding q) xs ≡ Nothing
+  pub absent-index : (xs : List Slot) → found q xs ≡ none → index_of (holding q) xs ≡ None
   absent-index xs n = go (index_of (holding q) xs) refl
     where
-      go : (w : Found) → index_of (holding q) xs ≡ w → index_of (holding q) xs ≡ Nothing
-      go Nothing e = e
-      go (At i) e =
-          let z : get_or xs i none ≡ none = sym (index-found xs i e) ∙ n in
-          absurd (false≢true (sym (ap (holding q) z) ∙ index-passes (holding q) xs i none e))
+      go : (w : Option ℕ) → index_of (holding q) xs ≡ w → index_of (holding q) xs ≡ None
+      go None e = e
+      go (Some i) e = grind (arith, index-found xs i e, index-passes (holding q) xs i none e)
 
 module _ (p : Slot → Bool) (y : Slot) where
-  pub index-replaced : (xs : List Slot) (i : ℕ) → index_of p xs ≡ At i → replaced p y xs ≡ set xs i y
-  unfolding index_from replaced
-  index-replaced [] i e = let z : ◌≡◌ {A = ℕ} 0 1 = cc in absurd (omega arith)
+  pub index-replaced : (xs : List Slot) (i : ℕ) → index_of p xs ≡ Some i → replaced p y xs ≡ set xs i y
+  unfolding replaced
+  index-replaced [] i e = cc
   index-replaced (x ∷ xs) i e = at_first p x xs i e (λ h z. rw (z, h)) (λ h j f z. rw (z, h) (ap (λ (v : List Slot). x ∷ v) (index-replaced xs j f)))
 
-  pub index_unreplaced : (xs : List Slot) → index_of p xs ≡ Nothing → replaced p y xs ≡ xs
+  pub index_unreplaced : (xs : List Slot) → index_of p xs ≡ None → replaced p y xs ≡ xs
   unfolding replaced
   index_unreplaced [] e = refl
   index_unreplaced (x ∷ xs) e = let n = nowhere p x xs e in rw n.0 (ap (λ (v : List Slot). x ∷ v) (index_unreplaced xs n.1))
 
-pub index-free : (xs : List Slot) (i : ℕ) → index_of is_free xs ≡ At i → any_free xs ≡ true
-unfolding index_from any_free
-index-free [] i e = let z : ◌≡◌ {A = ℕ} 0 1 = cc in absurd (omega arith)
+pub index-free : (xs : List Slot) (i : ℕ) → index_of is_free xs ≡ Some i → any_free xs ≡ true
+unfolding any_free
+index-free [] i e = cc
 index-free (x ∷ xs) i e = at_first is_free x xs i e (λ h z. rw h) (λ h j f z. rw h (index-free xs j f))
 
-pub index-full : (xs : List Slot) → index_of is_free xs ≡ Nothing → any_free xs ≡ false
+pub index-full : (xs : List Slot) → index_of is_free xs ≡ None → any_free xs ≡ false
 unfolding any_free
 index-full [] e = refl
 index-full (x ∷ xs) e = let n = nowhere is_free x xs e in rw n.0 (index-full xs n.1)
@@ -123,19 +113,19 @@ module _ (p : Slot → Bool) (l : Image) where
   unfolding slot_found
   found-whole e = rw (eq-eqb (length l) image_size e)
 
-  module _ (i : ℕ) (e : slot_found p l ≡ At i) where
+  module _ (i : ℕ) (e : slot_found p l ≡ Some i) where
     pub found-length : length l ≡ image_size
     unfolding slot_found
-    found-length = split (is_whole l) (λ h. eqb-true (length l) image_size h) (λ h. let z : Nothing ≡ At i = rw h at e in absurd_found z)
+    found-length = split (is_whole l) (λ h. eqb-true (length l) image_size h) (λ h. let z : None ≡ Some i = rw h at e in absurd_found z)
       where
-        absurd_found : {X : Type 0} → Nothing ≡ At i → X
-        absurd_found z = let y : ◌≡◌ {A = ℕ} 0 1 = cc in absurd (omega arith)
+        absurd_found : {X : Type 0} → None ≡ Some i → X
+        absurd_found z = cc
 
-    pub found-place : index_of p (read_server l).slots ≡ At i
+    pub found-place : index_of p (read_server l).slots ≡ Some i
     found-place = sym (found-whole found-length) ∙ e
 
     pub found-bound : i < most_connections
-    found-bound = rw (slots_length l) at (place-bound p 0 (read_server l).slots i found-place)
+    found-bound = rw (slots_length l) at (position-Some p (read_server l).slots i none (position_from-zero p (read_server l).slots ∙ found-place)).0
 
     -- the slot there passes the test
     pub found-passes : p (slot.get l (slot_offset i)) ≡ true
@@ -150,7 +140,7 @@ module _ (p : Slot → Bool) (l : Image) where
 
 module _ (q : Connection → Bool) (l : Image) where
   -- the connection found is the one that is read there
-  pub connection-found : (i : ℕ) → slot_found (holding q) l ≡ At i → found q (read_server l).slots ≡ some (connection_read l i)
+  pub connection-found : (i : ℕ) → slot_found (holding q) l ≡ Some i → found q (read_server l).slots ≡ some (connection_read l i)
   unfolding connection_read has_slot
   connection-found i e =
       let n = found-bound (holding q) l i e in
@@ -163,21 +153,21 @@ module _ (q : Connection → Bool) (l : Image) where
       go : (b : Bool) → holding q (cond b (some (connection.get l (slot_offset i + 1))) none) ≡ true
           → cond b (some (connection.get l (slot_offset i + 1))) none ≡ some (connection.get l (slot_offset i + 1))
       go true h = refl
-      go false h = let z : ◌≡◌ {A = ℕ} 0 1 = cc in absurd (omega arith)
+      go false h = cc
 
   -- and it passes the test
-  pub connection-passes : (i : ℕ) → slot_found (holding q) l ≡ At i → q (connection_read l i) ≡ true
+  pub connection-passes : (i : ℕ) → slot_found (holding q) l ≡ Some i → q (connection_read l i) ≡ true
   connection-passes i e =
       let n = found-bound (holding q) l i e in
       ap (holding q) (sym (connection-found i e) ∙ index-found q (read_server l).slots i (found-place (holding q) l i e) ∙ slot-place l i none n)
       ∙ found-passes (holding q) l i e
 
-  pub connection-absent : length l ≡ image_size → slot_found (holding q) l ≡ Nothing → found q (read_server l).slots ≡ none
+  pub connection-absent : length l ≡ image_size → slot_found (holding q) l ≡ None → found q (read_server l).slots ≡ none
   connection-absent n e = index-absent q (read_server l).slots (sym (found-whole (holding q) l n) ∙ e)
 
 module _ (l : Image) where
-  pub free-found : (i : ℕ) → slot_found is_free l ≡ At i → any_free (read_server l).slots ≡ true
+  pub free-found : (i : ℕ) → slot_found is_free l ≡ Some i → any_free (read_server l).slots ≡ true
   free-found i e = index-free (read_server l).slots i (found-place is_free l i e)
 
-  pub free-absent : length l ≡ image_size → slot_found is_free l ≡ Nothing → any_free (read_server l).slots ≡ false
+  pub free-absent : length l ≡ image_size → slot_found is_free l ≡ None → any_free (read_server l).slots ≡ false
   free-absent n e = index-full (read_server l).slots (sym (found-whole is_free l n) ∙ e)

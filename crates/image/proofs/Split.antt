@@ -1,8 +1,9 @@
 -- An image is taken where each of its parts fits where it stands. Assumes nothing.
 use mathlib.Core.Path.{◌≡◌, refl, sym, ap, ap₂, ◌∙◌}
-use mathlib.Core.Bool.{Bool, true, false, cond, ◌&&◌, and_assoc, true≢false}
+use mathlib.Core.Bool.{Bool, true, false, cond, ◌&&◌, true≢false}
 use mathlib.Core.Option.{Option, none, some}
 use Prim.Native.Nat.{ℕ, ◌+◌, ◌*◌}
+use native.Mathlib.Omega.{arith}
 use lib.Dec.{lit<}
 use borrow.Author.Tests.{eq-eqb}
 use lib.ListN.{length}
@@ -28,8 +29,7 @@ use Rattle.image.proofs.Taken.{taken-image, taken-read, taken-size}
 -- ---- what is taken, and what is not
 
 is-some : {A : Type 0} (b : Bool) (x : A) → is_some (cond b (some x) none) ≡ b
-is-some true x = refl
-is-some false x = refl
+is-some b x = grind arith
 
 -- an image that is taken is taken for what is read there, and is what that is written as
 pub taken_own : (l : Image) → is_taken l ≡ true → (taken l ≡ some (read_server l)) × (l ≡ image_of (read_server l))
@@ -64,16 +64,8 @@ taken-other l n = go (is_taken l) refl
 
 -- ---- part by part
 
-and-cross : (p q r s : Bool) → ((p && q) && (r && s)) ≡ ((p && r) && (q && s))
-and-cross true true r s = refl
-and-cross true false true s = refl
-and-cross true false false s = refl
-and-cross false q r s = refl
-
 gather : (a b c d e f g : Bool) → ((a && (b && c)) && (d && (e && (f && g)))) ≡ ((a && d) && ((b && e) && ((c && f) && g)))
-gather a b c d e f g =
-    and-cross a (b && c) d (e && (f && g))
-    ∙ ap (λ (x : Bool). (a && d) && x) (and-cross b c e (f && g) ∙ ap (λ (x : Bool). (b && e) && x) (sym (and_assoc c f g)))
+gather a b c d e f g = grind arith
 
 module _ (l : Image) where
   canonical-parts : canonical_at server l 0
@@ -119,3 +111,6 @@ module _ (l : Image) where
         (every_at (canonical_at slot l) slot_size most_connections server_slots) (header_within (header.get l 0))
         (mechanisms_within (Mechanisms.listed (table_at l))) (every_at within slot_size most_connections server_slots) (slots_differ l)
         ∙ ap (λ (b : Bool). header_fits l && (mechanisms_fit l && (b && slots_differ l))) (every_at-both (canonical_at slot l) within slot_size most_connections server_slots)
+
+-- what `is_taken` goes by
+pub ruleset judged = (taken-other, taken-split)

@@ -171,7 +171,7 @@ unfolding mechanism_written has_record
 mechanism-written s i m e h = rw (eq-eqb (length (image_of s)) image_size (image-size s), lt-ltb i most_mechanisms h) (mechanism-stored s i m e h)
 
 -- a buffer of an image's length cleared, and a header written there
-pub fresh-made : (l m : Image) (h : Header) (c t : ℕ) → length l ≡ image_size → m ≡ replicate (length l) 0 → h ≡ made c t
+pub fresh_made : (l m : Image) (h : Header) (c t : ℕ) → length l ≡ image_size → m ≡ replicate (length l) 0 → h ≡ made c t
     → stored m 0 (header.put h) ≡ image_of (fresh c t)
-fresh-made l m h c t e cleared is =
+fresh_made l m h c t e cleared is =
     ap₂ (λ (x : Image) (y : Header). stored x 0 (header.put y)) (cleared ∙ ap (λ (n : ℕ). replicate n 0) e) is ∙ fresh-stored c t

@@ -86,8 +86,8 @@ module _ (l : List ℕ) (at : ℕ) where
   starts = not (eqb (get_or l at 0) 0) && every_at (may_stand_at l) 1 16 at
 
   -- a name whose last four octets are NUL, and any
-  pub name-short : stands_at (replicate 4 0) l (at + 16) ≡ true → starts ≡ mechanism_within (mechanism.get l at)
-  name-short e =
+  pub short_name : stands_at (replicate 4 0) l (at + 16) ≡ true → starts ≡ mechanism_within (mechanism.get l at)
+  short_name e =
       let k : at + 16 + 3 ≡ at + 19 = omega arith in
       let z : true ≡ (every_at (may_stand_at l) 1 3 (at + 16) && may_end (get_or l (at + 19) 0)) = rw k at (last-blank l (at + 16) e) in
       ap (λ (b : Bool). not (eqb (get_or l at 0) 0) && b)
@@ -97,17 +97,17 @@ module _ (l : List ℕ) (at : ℕ) where
       ∙ ap (λ (b : Bool). b && may_end (get_or l (at + 19) 0)) (sym (places-split (may_stand_at l) 16 3 at)))
       ∙ within
 
-  pub name-long : (starts && (every_at (may_stand_at l) 1 16 (at + 3) && may_end (get_or l (at + 19) 0))) ≡ mechanism_within (mechanism.get l at)
-  name-long =
+  pub long_name : (starts && (every_at (may_stand_at l) 1 16 (at + 3) && may_end (get_or l (at + 19) 0))) ≡ mechanism_within (mechanism.get l at)
+  long_name =
       and_assoc (not (eqb (get_or l at 0) 0)) (every_at (may_stand_at l) 1 16 at) (every_at (may_stand_at l) 1 16 (at + 3) && may_end (get_or l (at + 19) 0))
       ∙ ap (λ (b : Bool). not (eqb (get_or l at 0) 0) && b)
       (sym (and_assoc (every_at (may_stand_at l) 1 16 at) (every_at (may_stand_at l) 1 16 (at + 3)) (may_end (get_or l (at + 19) 0)))
       ∙ ap (λ (b : Bool). b && may_end (get_or l (at + 19) 0)) (places-shared (may_stand_at l) 3 13 3 at))
       ∙ within
 
-  pub mechanism-fits : ((leb (get_or l (at + 20) 0) 1 && leb (get_or l (at + 21) 0) 1) && mechanism_within (mechanism.get l at)) ≡ mechanism_fits l at
+  pub mechanism_tests : ((leb (get_or l (at + 20) 0) 1 && leb (get_or l (at + 21) 0) 1) && mechanism_within (mechanism.get l at)) ≡ mechanism_fits l at
   unfolding mechanism_fits
-  mechanism-fits = ap (λ (b : Bool). b && mechanism_within (mechanism.get l at)) (mechanism-canonical l at)
+  mechanism_tests = ap (λ (b : Bool). b && mechanism_within (mechanism.get l at)) (mechanism-canonical l at)
 
 -- ---- two names: m, the octets where the second stands
 
@@ -248,8 +248,8 @@ module _ (l : List ℕ) where
       ∙ ap (λ (t : Bool). t && (leb (length ms) most_mechanisms && apart same_name ms))
       (canonical-listed-every mechanism-lawful mechanism_size mechanism-size most_mechanisms l server_mechanisms mechanism_within)
 
-  pub table-many : most_mechanisms < count → false ≡ mechanisms_fit l
-  table-many h = sym (parted ∙ rw (lt-leb count most_mechanisms h))
+  pub table_many : most_mechanisms < count → false ≡ mechanisms_fit l
+  table_many h = sym (parted ∙ rw (lt-leb count most_mechanisms h))
 
   pub table_fits : count ≤ most_mechanisms
       → ((every_at (mechanism_fits l) mechanism_size count (mechanism_offset 0) && apart same_name (get_array mechanism count l (mechanism_offset 0)))

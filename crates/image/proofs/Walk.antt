@@ -18,7 +18,7 @@ use Rattle.image.specs.Layout.{slot}
 use Rattle.image.specs.InPlace.{slot_offset}
 use Rattle.image.specs.Private.{connection_fits, slot_fits, slots_at, slots_differ, slot_number, slot_ticket, Met, is_new, joins, fit_from}
 use Rattle.image.proofs.Differ.{differ-turn, differ-end}
-use Rattle.image.proofs.Keys.{number-skips, ticket-skips, free_new, free-new-ticket}
+use Rattle.image.proofs.Keys.{free_new}
 use Rattle.image.proofs.Parts.{slot-open, slot-free}
 use Rattle.image.proofs.Pieces.{zeros-split, zeros-first}
 
@@ -46,7 +46,7 @@ module _ (l : List ℕ) (h : Header) where
     unfolding joins
     free-joins f n k m j =
         slot-free l h (slot_offset i) f
-        ∙ rw (sym (free_new l i b n f k), sym (free-new-ticket l i b m f j)) (sym (and-true (slot_fits l h (slot_offset i))))
+        ∙ rw (sym (free_new l i b number_of slot_number n k refl f).0, sym (free_new l i b ticket_of slot_ticket m j refl f).0) (sym (and-true (slot_fits l h (slot_offset i))))
 
     -- the tests of an open one, one after another
     module _ (f : is_one (get_or l (slot_offset i) 0) ≡ true) where
@@ -121,6 +121,6 @@ module _ (l : List ℕ) (h : Header) where
         let r = walk-skip k (i + 1) (omega arith) (rw (← o) q.1) (rw (← p) f) (rw (← p) a) (rw (← p) c) in
         let t : is_one (get_or l (slot_offset i) 0) ≡ false = ap is_one (zeros-first l (slot_offset i) (slot_size - 1) q.0) in (
           sym (walk_turn i (omega arith) true true (sym r.0) (sym q.0 ∙ free-joins i (omega arith) t n r.1 m r.2)),
-          number-skips l i (omega arith) n t r.1,
-          ticket-skips l i (omega arith) m t r.2,
+          (free_new l i (omega arith) number_of slot_number n r.1 refl t).1,
+          (free_new l i (omega arith) ticket_of slot_ticket m r.2 refl t).1,
         )

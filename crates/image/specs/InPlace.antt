@@ -1,5 +1,8 @@
 -- An image tested, read and written where it stands. Octets of another length are no image: nothing is found there and nothing changes.
+use Rattle.std.specs.Prelude as Rust
+use Rattle.std.specs.Prelude.{None}
 use Rattle.std.specs.Prelude.{Bool, true, false, cond, ◌&&◌, List, [], ◌∷◌, ℕ, ◌+◌, ◌*◌, eqb, ltb, length, get_or}
+use Rattle.std.specs.List.{position_from}
 use Rattle.std.proofs.Math.Option.{Option, none, some}
 use Rattle.codec.specs.Codec.{put_octet, get_array}
 use Rattle.codec.specs.Stored.{stored}
@@ -10,8 +13,6 @@ use Rattle.server.specs.declared.Connection.{Connection}
 use Rattle.server.specs.declared.Header.{Header}
 use Rattle.server.specs.declared.Mechanism.{Mechanism}
 use Rattle.server.specs.declared.Mechanisms.{Mechanisms}
-use Rattle.image.specs.declared.Found.{Found}
-use Rattle.image.specs.declared.Found.TheVariants.{At, Nothing}
 use Rattle.image.specs.Sizes.{mechanism_size, slot_size, server_mechanisms, server_slots, image_size}
 use Rattle.image.specs.Layout.{connection, slot, mechanism, header, server}
 use Rattle.image.specs.Image.{Image, image_of, taken}
@@ -63,17 +64,13 @@ connection_read l i = cond (has_slot l i) (connection.get l (slot_offset i + 1))
 
 -- ---- where it is
 
--- the index of the first that passes a test, with the indices counted from i
-unfoldable pub index_from : {A : Type 0} → (A → Bool) → ℕ → List A → Found
-index_from p i [] = Nothing
-index_from p i (x ∷ xs) = cond (p x) (At i) (index_from p (i + 1) xs)
-
-abbrev pub index_of : {A : Type 0} → (A → Bool) → List A → Found
-index_of p xs = index_from p 0 xs
+-- the index of the first that passes a test
+abbrev pub index_of : {A : Type 0} → (A → Bool) → List A → Rust.Option ℕ
+index_of p xs = position_from p 0 xs
 
 -- the lowest slot that passes a test
-unfoldable pub slot_found : (Slot → Bool) → Image → Found
-slot_found p l = cond (is_whole l) (index_of p (read_server l).slots) Nothing
+unfoldable pub slot_found : (Slot → Bool) → Image → Rust.Option ℕ
+slot_found p l = cond (is_whole l) (index_of p (read_server l).slots) None
 
 -- ---- what is written there
 

@@ -1,5 +1,7 @@
 -- What the functions that test an image part by part come to.
 use Rattle.std.specs.Prelude.{◌≡◌, Bool, true, cond, not, ◌&&◌, ◌||◌, List, [], ◌∷◌, ℕ, zero, suc, ◌+◌, ◌-◌, ◌*◌, ◌/◌, ◌%◌, ◌≤◌, eqb, leb, ltb, length, get_or, drop, replicate}
+use Rattle.std.specs.Prelude as Rust
+use Rattle.std.specs.Prelude.{Some, None, is_none}
 use Rattle.std.proofs.Math.Option.{Option, none, some}
 use Rattle.octets.specs.Lists.{every, same, before, padded_to}
 use Rattle.codec.specs.Codec.{octet, get_number, get_array, listed}
@@ -105,15 +107,15 @@ buckets_of m = first_bucket m ∷ digits (spread m) (spread m)
 unfoldable pub is_of : Image → ℕ → ℕ → ℕ → Bool
 is_of l o x m = eqb (get_number 8 l (slot_offset (x % most_connections) + o)) m
 
--- of some buckets the first that is empty, where no one before it has a slot with this key; else 512
-unfoldable pub empty_bucket : Image → ℕ → List ℕ → ℕ → List ℕ → ℕ
-empty_bucket l o n m [] = buckets
-empty_bucket l o n m (k ∷ ks) = cond (eqb (get_or n k 0) 0) k (cond (is_of l o (get_or n k 0) m) buckets (empty_bucket l o n m ks))
+-- of some buckets the first that is empty, where no one before it has a slot with this key
+unfoldable pub empty_bucket : Image → ℕ → List ℕ → ℕ → List ℕ → Rust.Option ℕ
+empty_bucket l o n m [] = None
+empty_bucket l o n m (k ∷ ks) = cond (eqb (get_or n k 0) 0) (Some k) (cond (is_of l o (get_or n k 0) m) None (empty_bucket l o n m ks))
 
 -- a key was met, or all of its buckets are taken; every one from slot i on
 abbrev pub is_met : Image → ℕ → List ℕ → Option ℕ → Bool
 is_met l o n none = true
-is_met l o n (some m) = eqb (empty_bucket l o n m (buckets_of m)) buckets
+is_met l o n (some m) = is_none (empty_bucket l o n m (buckets_of m))
 
 pub record Met (key : Slot → Option ℕ) (o : ℕ) (l : Image) (i : ℕ) (n : List ℕ) : Type 0 where
   pub bound : i ≤ most_connections

@@ -9,8 +9,9 @@ ghost use Rattle.server.specs.WellFormed.{apart, same_name, mechanism_within};
 ghost use Rattle.image.specs.InPlace.{mechanism_offset};
 ghost use Rattle.image.specs.Layout.{mechanism};
 ghost use Rattle.image.specs.Private.{may_stand_at, mechanism_fits, mechanisms_fit, is_other_at};
-ghost use Rattle.image.specs.Sizes.{mechanism_size, image_size};
+ghost use Rattle.image.specs.Sizes.{mechanism_size};
 
+use crate::OCTETS;
 use crate::leaves::{are_zeros, read_number};
 use crate::sizes::{
     MECHANISM, MECHANISM_CLIENT_FIRST, MECHANISM_NEEDS_PROTECTION, SERVER_MECHANISMS,
@@ -34,15 +35,14 @@ fn may_all_stand(image: &[u8], at: usize) -> bool
     ensures { result ≡ every_at (may_stand_at image.now) 1 16 at }
 {
     let mut ok = true;
-    let mut i = 0;
-    while i < 16 {
+    for i in 0..16 {
         ok = ok & may_stand(image, at + i);
-        i += 1;
     }
     ok
 }
 
 // Whether the twenty octets at an index are a name, padded with NUL. The last four are NUL in most names; else two pieces share octets.
+#[tactic(auto, using(crate::proofs::Table::short_name, crate::proofs::Table::long_name))]
 fn is_name(image: &[u8], at: usize) -> bool
     requires { at + longest_mechanism ≤ length image.now }
     ensures { result ≡ mechanism_within (mechanism.get image.now at) }
@@ -56,6 +56,7 @@ fn is_name(image: &[u8], at: usize) -> bool
 }
 
 // A mechanism: two yes-or-nos and a name.
+#[tactic(auto, using(crate::proofs::Table::mechanism_tests))]
 fn mechanism_fits(image: &[u8], at: usize) -> bool
     requires { at + mechanism_size ≤ length image.now }
     ensures { result ≡ mechanism_fits image.now at }
@@ -67,16 +68,17 @@ fn mechanism_fits(image: &[u8], at: usize) -> bool
 
 // ---- two names
 
-// Whether the name at an index is the one at an index of other octets, compared as numbers of eight octets. The last two share octets.
-fn same_name(image: &[u8], at: usize, other: &[u8], from: usize) -> bool
-    requires { (at + longest_mechanism ≤ length image.now) × («from» + longest_mechanism ≤ length other.now) }
-    ensures { result ≡ same (get_array octet longest_mechanism image.now at) (get_array octet longest_mechanism other.now «from») }
+// Whether the names at two indices are the same, compared as numbers of eight octets. The last two share octets. Not by == of two slices:
+// the loop over the names calls this with no branch, and a comparison of slices is a call.
+fn same_name(image: &[u8], at: usize, other: usize) -> bool
+    requires { (at + longest_mechanism ≤ length image.now) × (other + longest_mechanism ≤ length image.now) }
+    ensures { result ≡ same (get_array octet longest_mechanism image.now at) (get_array octet longest_mechanism image.now other) }
 {
-    if read_number(image, at) != read_number(other, from) {
+    if read_number(image, at) != read_number(image, other) {
         return false;
     }
-    let middle = read_number(image, at + 8) == read_number(other, from + 8);
-    middle & (read_number(image, at + 12) == read_number(other, from + 12))
+    let middle = read_number(image, at + 8) == read_number(image, other + 8);
+    middle & (read_number(image, at + 12) == read_number(image, other + 12))
 }
 
 // Whether none of the n mechanisms after the one at an index has its name.
@@ -85,10 +87,8 @@ fn is_new_name(image: &[u8], at: usize, n: usize) -> bool
     ensures { result ≡ every_at (is_other_at image.now at) mechanism_size n (at + mechanism_size) }
 {
     let mut ok = true;
-    let mut i = 0;
-    while i < n {
-        ok = ok & !same_name(image, at, image, at + MECHANISM + i * MECHANISM);
-        i += 1;
+    for i in 0..n {
+        ok = ok & !same_name(image, at, at + MECHANISM + i * MECHANISM);
     }
     ok
 }
@@ -96,26 +96,24 @@ fn is_new_name(image: &[u8], at: usize, n: usize) -> bool
 // ---- the table
 
 // Whether the first so many records are mechanisms whose names differ.
-fn records_fit(image: &[u8], count: usize) -> bool
-    requires { (length image.now ≡ image_size) × (count ≤ most_mechanisms) }
+fn records_fit(image: &[u8; OCTETS], count: usize) -> bool
+    requires { count ≤ most_mechanisms }
     ensures { result ≡ (every_at (mechanism_fits image.now) mechanism_size count (mechanism_offset 0) && apart same_name (get_array mechanism count image.now (mechanism_offset 0))) }
 {
     let mut ok = true;
-    let mut i = 0;
-    while i < count {
+    for i in 0..count {
         let at = SERVER_MECHANISMS + 1 + i * MECHANISM;
         ok = ok & (mechanism_fits(image, at) & is_new_name(image, at, count - (i + 1)));
-        i += 1;
     }
     ok
 }
 
 // The records that are not used are zeros.
-pub(crate) fn mechanisms_fit(image: &[u8]) -> bool
-    requires { length image.now ≡ image_size }
+#[tactic(auto, using(crate::proofs::Table::table_many, crate::proofs::Table::table_fits))]
+pub(crate) fn mechanisms_fit(image: &[u8; OCTETS]) -> bool
     ensures { result ≡ mechanisms_fit image.now }
 {
-    let count = image[SERVER_MECHANISMS] as usize;
+    let count = usize::from(image[SERVER_MECHANISMS]);
     if MOST_MECHANISMS < count {
         return false;
     }

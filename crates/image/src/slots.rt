@@ -1,4 +1,6 @@
 // A slot tested where it stands.
+#![tactic(auto, using(crate::proofs::Places::slots))]
+
 ghost use Rattle.std.specs.Prelude.{◌≡◌, ◌+◌, ◌≤◌, length};
 ghost use Rattle.server.specs.Slots.{is_numbered, is_waiting, is_free, holding};
 ghost use Rattle.image.specs.Sizes.{slot_size};
@@ -14,7 +16,7 @@ pub(crate) const SLOT_PHASE: usize = 1 + CONNECTION_SESSION + SESSION_PHASE;
 
 pub(crate) const SLOT_TICKET: usize = SLOT_PHASE + PHASE_TICKET;
 
-// The numbers of the phases.
+// The octets that stand for the phases. Constants and no enum: an octet of an image may be any, and it is told where it stands.
 pub(crate) const IDLE: u8 = 0;
 
 pub(crate) const SIGNED_IN: u8 = 1;
@@ -35,7 +37,7 @@ pub(crate) fn is_numbered(image: &[u8], at: usize, number: u64) -> bool
     requires { at + slot_size ≤ length image.now }
     ensures { result ≡ holding (is_numbered number) (slot.get image.now at) }
 {
-    read_flag(image, at) & (read_number(image, at + SLOT_NUMBER) == number)
+    read_flag(image, at) && read_number(image, at + SLOT_NUMBER) == number
 }
 
 // Whether it holds a connection that waits on this ticket.
@@ -43,6 +45,7 @@ pub(crate) fn is_waiting(image: &[u8], at: usize, ticket: u64) -> bool
     requires { at + slot_size ≤ length image.now }
     ensures { result ≡ holding (is_waiting ticket) (slot.get image.now at) }
 {
-    let waits = read_flag(image, at) & (image[at + SLOT_PHASE] == WAITING);
-    waits & (read_number(image, at + SLOT_PHASE + PHASE_TICKET) == ticket)
+    read_flag(image, at)
+        && image[at + SLOT_PHASE] == WAITING
+        && read_number(image, at + SLOT_TICKET) == ticket
 }

@@ -10,15 +10,14 @@ fn small(row: &[u8], i: usize) -> u8 {
 
 // Whether word i has a mark.
 pub(crate) fn has(row: &[u8], i: usize, mark: u8) -> bool {
-    let marks = word(row, i);
-    octets::find(marks, 0, mark) < marks.len()
+    word(row, i).contains(&mark)
 }
 
 fn profile(row: &[u8]) -> Profile {
     if has(row, 2, b'3') {
-        Profile::pop3()
+        Profile::Pop3
     } else {
-        Profile::smtp()
+        Profile::Smtp
     }
 }
 
@@ -42,9 +41,8 @@ fn name(row: &[u8]) -> [u8; Session::LONGEST_NAME] {
 }
 
 pub(crate) fn connection(row: &[u8]) -> Connection {
-    let kept = name(row);
     let session = Session {
-        name: kept,
+        name: name(row),
         profile: profile(row),
         protected: has(row, 2, b'p'),
         greeted: has(row, 2, b'g'),

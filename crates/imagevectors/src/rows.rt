@@ -32,18 +32,11 @@
 // than 5,763 octets.
 use crate::connections::{connection, has};
 use crate::{show, sweep};
-use image::{Found, OCTETS};
-use octets::Decoded;
+use image::OCTETS;
 use server::{Header, Mechanism};
 use std::io;
-use textvectors::show::{put, quoted};
+use textvectors::show::Quoted;
 use textvectors::words::{index, number, octet, rest, word};
-
-fn fill(image: &mut [u8], x: u8) {
-    for y in image {
-        *y = x;
-    }
-}
 
 fn seal(text: &[u8], image: &mut [u8]) {
     let header = Header {
@@ -73,12 +66,12 @@ fn keep(image: &[u8], kept: &mut [u8], at: usize) {
 }
 
 fn bring(image: &mut [u8], kept: &[u8], at: usize) {
-    let to = std::num::wrapping_add_usize(at, image.len());
+    let to = at.wrapping_add(image.len());
     octets::write(octets::part(kept, at, to), image, 0);
 }
 
 fn tested(rt: &impl Print, text: &[u8], image: &[u8]) -> io::Result<()> {
-    put(rt, text)?;
+    rt.write_all(text)?;
     show::taken(rt, image)
 }
 
@@ -94,24 +87,21 @@ fn damaged(rt: &impl Print, image: &[u8], at: usize, bytes: &[u8]) -> io::Result
     let mut other = [0u8; OCTETS];
     octets::write(image, &mut other, 0);
     octets::write(bytes, &mut other, at);
-    show::amount(rt, b", ", at as u64)?;
-    put(rt, b" ")?;
-    quoted(rt, bytes)?;
+    print!(rt; ", {at} {}", Quoted(bytes))?;
     show::taken(rt, &other)
 }
 
 fn damage(rt: &impl Print, text: &[u8], image: &[u8]) -> io::Result<()> {
     let mut bytes = [0u8; 87];
-    let at = std::num::wrapping_add_usize(index(text, 0), index(text, 1));
-    put(rt, rest(text, 3))?;
-    let d = xtext::decode(word(text, 2), &mut bytes);
-    match d {
-        Decoded::Length(n) => damaged(rt, image, at, octets::part(&bytes, 0, n)),
-        _ => put(rt, b": not read"),
+    let at = index(text, 0).wrapping_add(index(text, 1));
+    rt.write_all(rest(text, 3))?;
+    match xtext::decode(word(text, 2), &mut bytes) {
+        Ok(n) => damaged(rt, image, at, octets::part(&bytes, 0, n)),
+        Err(_) => print!(rt; ": not read"),
     }
 }
 
-fn find(kind: u8, n: u64, image: &[u8]) -> Found {
+fn find(kind: u8, n: u64, image: &[u8]) -> Option<usize> {
     match kind {
         b'c' => image::find_connection(image, n),
         b't' => image::find_ticket(image, n),
@@ -131,13 +121,13 @@ fn read(rt: &impl Print, kind: u8, text: &[u8], n: u64, image: &[u8]) -> io::Res
         ),
         b's' => show::connection(rt, image, n as usize),
         b'~' => sweep::run(rt, image, n as usize, index(text, 3)),
-        _ => put(rt, b": not done"),
+        _ => print!(rt; ": not done"),
     }
 }
 
 fn answer(rt: &impl Print, kind: u8, text: &[u8], image: &[u8]) -> io::Result<()> {
     let n = number(text, 1);
-    put(rt, text)?;
+    rt.write_all(text)?;
     match kind {
         b'"' => Ok(()),
         b'.' => show::taken(rt, image),
@@ -153,7 +143,7 @@ fn told(rt: &impl Print, kind: u8, text: &[u8], image: &[u8]) -> io::Result<()> 
         b'r' => show::record(rt, image, index(text, 0))?,
         _ => answer(rt, kind, text, image)?,
     }
-    put(rt, b"\n")
+    println!(rt)
 }
 
 // Writes the image; a row that only looks at it prints.
@@ -161,7 +151,7 @@ fn on_image(rt: &impl Print, kind: u8, text: &[u8], image: &mut [u8]) -> io::Res
     let n = number(text, 0);
     match kind {
         0 | b'#' => {}
-        b'X' => fill(image, (n % 256) as u8),
+        b'X' => image.fill((n % 256) as u8),
         b'M' => image::make(image, n, number(text, 1)),
         b'H' => seal(text, image),
         b'A' => add(text, image),
@@ -202,10 +192,9 @@ fn row(
     if kind == b'N' {
         return Ok(index(text, 0));
     }
-    if n <= buffer.len() {
-        event(rt, kind, text, &mut buffer[..n], kept)?;
-    } else {
-        put(rt, b"not done\n")?;
+    match buffer.get_mut(..n) {
+        Some(image) => event(rt, kind, text, image, kept)?,
+        None => println!(rt; "not done")?,
     }
     Ok(n)
 }
@@ -217,11 +206,8 @@ pub(crate) fn run(
     kept: &mut [u8],
 ) -> io::Result<()> {
     let mut n = OCTETS;
-    let mut from: usize = 0;
-    while from < text.len() {
-        let to = octets::find(text, from, b'\n');
-        n = row(rt, octets::part(text, from, to), n, buffer, kept)?;
-        from = to + 1;
+    for line in text.split(|x| *x == b'\n') {
+        n = row(rt, line, n, buffer, kept)?;
     }
     Ok(())
 }

@@ -1,13 +1,11 @@
 // An image with one bit turned, for each octet: how many of these images are taken, and the sum of their offsets modulo 65536.
-use crate::show::amount;
 use image::OCTETS;
 use std::io;
 
 // Turns bit i modulo 8 of octet i.
 fn turn(image: &mut [u8], i: usize) {
-    let bits = *b"\x01\x02\x04\x08\x10\x20\x40\x80";
-    if i < image.len() {
-        image[i] = image[i] ^ bits[i % 8];
+    if let Some(octet) = image.get_mut(i) {
+        *octet ^= 1u8 << (i % 8);
     }
 }
 
@@ -23,10 +21,9 @@ pub(crate) fn run(rt: &impl Print, image: &[u8], from: usize, to: usize) -> io::
     let mut sum: u64 = 0;
     for i in from..to {
         if is_taken_with(image, i) {
-            count = std::num::wrapping_add_u64(count, 1);
-            sum = std::num::wrapping_add_u64(sum, i as u64);
+            count = count.wrapping_add(1);
+            sum = sum.wrapping_add(i as u64);
         }
     }
-    amount(rt, b": taken ", count)?;
-    amount(rt, b", sum ", sum % 65536)
+    print!(rt; ": taken {count}, sum {}", sum % 65536)
 }

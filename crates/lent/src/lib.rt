@@ -13,10 +13,10 @@ use session::answer::Answer;
 use session::view::{Offer, View};
 
 // A line, as the session sees it.
-pub fn line(s: &mut Session, view: View, offer: Offer, ticket: u64) -> Answer
+pub fn line(s: &mut Session, view: View, offer: Option<Offer>, ticket: u64) -> Answer
     ensures { (result ≡ (after_line s.old view offer ticket).answer) × (s.new ≡ (after_line s.old view offer ticket).session) }
 {
-    let stepped = (*s).line(view, offer, ticket);
+    let stepped = s.line(view, offer, ticket);
     *s = stepped.session;
     stepped.answer
 }
@@ -25,7 +25,7 @@ pub fn line(s: &mut Session, view: View, offer: Offer, ticket: u64) -> Answer
 pub fn verdict(s: &mut Session, ticket: u64, verdict: Verdict, bytes: &[u8]) -> Answer
     ensures { (result ≡ (after_verdict s.old ticket verdict bytes.now).answer) × (s.new ≡ (after_verdict s.old ticket verdict bytes.now).session) }
 {
-    let stepped = (*s).verdict(ticket, verdict, bytes);
+    let stepped = s.verdict(ticket, verdict, bytes);
     *s = stepped.session;
     stepped.answer
 }
@@ -34,5 +34,5 @@ pub fn verdict(s: &mut Session, ticket: u64, verdict: Verdict, bytes: &[u8]) -> 
 pub fn mail_ended(s: &mut Session)
     ensures { s.new ≡ after_mail s.old }
 {
-    *s = (*s).mail_ended();
+    *s = s.mail_ended();
 }

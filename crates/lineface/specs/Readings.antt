@@ -1,18 +1,19 @@
 -- The numbers of a line's reading: its kind, then the indices and the length that the kind has, 0 where it has none.
 use Rattle.std.specs.Prelude.{ℕ, List}
 use Rattle.profile.specs.Numbers.{profile_of}
-use Rattle.profile.specs.declared.ListedProfile.{ListedProfile}
-use Rattle.profile.specs.declared.ListedProfile.TheVariants as ListedProfiles
+use Rattle.profile.specs.declared.Profile.{Profile}
+use Rattle.profile.specs.declared.numbers.Refusal.{Refusal}
 use Rattle.mail.specs.declared.Mail.{Mail}
 use Rattle.mail.specs.declared.Mail.TheVariants as Mails
+use Rattle.std.specs.Prelude.{Option, Some, None, Result, Ok, Err}
 use Rattle.lines.specs.Command.{command}
 use Rattle.lines.specs.Response.{response}
 use Rattle.lines.specs.declared.auth.Auth.{Auth}
 use Rattle.lines.specs.declared.auth.Auth.TheVariants as Auths
 use Rattle.lines.specs.declared.command.Command.{Command}
 use Rattle.lines.specs.declared.command.Command.TheVariants as Commands
-use Rattle.lines.specs.declared.response.Response.{Response}
-use Rattle.lines.specs.declared.response.Response.TheVariants as Responses
+use Rattle.lines.specs.declared.response.ResponseError.{ResponseError}
+use Rattle.lines.specs.declared.response.ResponseError.TheVariants as Responses
 use Rattle.lineface.specs.declared.Reading.{Reading}
 
 abbrev pub bare : ℕ → Reading
@@ -22,16 +23,16 @@ bare k = record { kind = k; to = 0; from = 0; length = 0 }
 abbrev pub unlisted : Reading
 unlisted = bare 0
 
-abbrev pub mail_reading : Mail → Reading
-mail_reading Mails.Malformed = bare 9
-mail_reading Mails.Absent = bare 10
-mail_reading Mails.Null = bare 11
-mail_reading (Mails.Address from to n) = record { kind = 12; to = to; from = from; length = n }
+abbrev pub mail_reading : Option Mail → Reading
+mail_reading None = bare 9
+mail_reading (Some Mails.Absent) = bare 10
+mail_reading (Some Mails.Null) = bare 11
+mail_reading (Some (Mails.Address from to n)) = record { kind = 12; to = to; from = from; length = n }
 
-abbrev pub auth_reading : Auth → Reading
-auth_reading Auths.Malformed = bare 13
-auth_reading (Auths.Alone to) = record { kind = 14; to = to; from = 0; length = 0 }
-auth_reading (Auths.Initial to from n) = record { kind = 15; to = to; from = from; length = n }
+abbrev pub auth_reading : Option Auth → Reading
+auth_reading None = bare 13
+auth_reading (Some (Auths.Alone to)) = record { kind = 14; to = to; from = 0; length = 0 }
+auth_reading (Some (Auths.Initial to from n)) = record { kind = 15; to = to; from = from; length = n }
 
 abbrev pub command_reading : Command → Reading
 command_reading Commands.NotUnderstood = bare 1
@@ -45,20 +46,20 @@ command_reading (Commands.Auth a) = auth_reading a
 command_reading Commands.Barred = bare 7
 command_reading Commands.Other = bare 8
 
-abbrev pub response_reading : Response → Reading
-response_reading Responses.TooLong = bare 16
-response_reading Responses.Cancelled = bare 17
-response_reading Responses.Malformed = bare 18
-response_reading (Responses.Length n) = record { kind = 19; to = 0; from = 0; length = n }
+abbrev pub response_reading : Result ℕ ResponseError → Reading
+response_reading (Err Responses.TooLong) = bare 16
+response_reading (Err Responses.Cancelled) = bare 17
+response_reading (Err Responses.Malformed) = bare 18
+response_reading (Ok n) = record { kind = 19; to = 0; from = 0; length = n }
 
 -- by a profile, which may be unlisted
-abbrev pub command_by : ListedProfile → List ℕ → Reading
-command_by (ListedProfiles.Known p) l = command_reading (command p l)
-command_by ListedProfiles.Unlisted l = unlisted
+abbrev pub command_by : Result Profile Refusal → List ℕ → Reading
+command_by (Ok p) l = command_reading (command p l)
+command_by (Err r) l = unlisted
 
-abbrev pub response_by : ListedProfile → List ℕ → Reading
-response_by (ListedProfiles.Known p) l = response_reading (response p l)
-response_by ListedProfiles.Unlisted l = unlisted
+abbrev pub response_by : Result Profile Refusal → List ℕ → Reading
+response_by (Ok p) l = response_reading (response p l)
+response_by (Err r) l = unlisted
 
 abbrev pub command_at : ℕ → List ℕ → Reading
 command_at n l = command_by (profile_of n) l

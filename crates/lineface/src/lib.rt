@@ -1,4 +1,4 @@
-// The C face of the readings of lines for bench/: an answer as its numbers; no part of the library that is shipped.
+// The C face of the readings of lines for bench/: an answer as its numbers, since that is what C gets; no part of the library that is shipped.
 #![tactic(auto)]
 
 ghost use Rattle.std.specs.Prelude.{◌≡◌};
@@ -6,9 +6,9 @@ ghost use Rattle.lineface.specs.Readings.{bare, mail_reading, auth_reading, comm
 
 use lines::auth::Auth;
 use lines::command::Command;
-use lines::response::Response;
+use lines::response::ResponseError;
 use mail::Mail;
-use profile::{ListedProfile, Profile};
+use profile::Profile;
 
 // The kind of a reading, and the indices and the length that it has.
 #[repr(C)]
@@ -32,14 +32,14 @@ fn bare(kind: u64) -> Reading
     }
 }
 
-fn of_mail(m: Mail) -> Reading
+fn of_mail(m: Option<Mail>) -> Reading
     ensures { result ≡ mail_reading m }
 {
     match m {
-        Mail::Malformed => bare(9),
-        Mail::Absent => bare(10),
-        Mail::Null => bare(11),
-        Mail::Address { from, to, length } => Reading {
+        None => bare(9),
+        Some(Mail::Absent) => bare(10),
+        Some(Mail::Null) => bare(11),
+        Some(Mail::Address { from, to, length }) => Reading {
             kind: 12,
             to: to as u64,
             from: from as u64,
@@ -48,18 +48,16 @@ fn of_mail(m: Mail) -> Reading
     }
 }
 
-fn of_auth(a: Auth) -> Reading
+fn of_auth(a: Option<Auth>) -> Reading
     ensures { result ≡ auth_reading a }
 {
     match a {
-        Auth::Malformed => bare(13),
-        Auth::Alone { to } => Reading {
-            kind: 14,
+        None => bare(13),
+        Some(Auth::Alone { to }) => Reading {
             to: to as u64,
-            from: 0,
-            length: 0,
+            ..bare(14)
         },
-        Auth::Initial { to, from, length } => Reading {
+        Some(Auth::Initial { to, from, length }) => Reading {
             kind: 15,
             to: to as u64,
             from: from as u64,
@@ -85,18 +83,16 @@ fn of_command(c: Command) -> Reading
     }
 }
 
-fn of_response(told: Response) -> Reading
+fn of_response(told: Result<usize, ResponseError>) -> Reading
     ensures { result ≡ response_reading told }
 {
     match told {
-        Response::TooLong => bare(16),
-        Response::Cancelled => bare(17),
-        Response::Malformed => bare(18),
-        Response::Length(n) => Reading {
-            kind: 19,
-            to: 0,
-            from: 0,
+        Err(ResponseError::TooLong) => bare(16),
+        Err(ResponseError::Cancelled) => bare(17),
+        Err(ResponseError::Malformed) => bare(18),
+        Ok(n) => Reading {
             length: n as u64,
+            ..bare(19)
         },
     }
 }
@@ -105,10 +101,9 @@ fn of_response(told: Response) -> Reading
 pub extern "C" fn bench_command(profile: u64, line: &[u8]) -> Reading
     ensures { result ≡ command_at profile line.now }
 {
-    let listed = Profile::of(profile);
-    match listed {
-        ListedProfile::Known(p) => of_command(lines::command::read_command(p, line)),
-        ListedProfile::Unlisted => bare(0),
+    match Profile::try_from(profile) {
+        Ok(p) => of_command(lines::command::read_command(p, line)),
+        Err(_) => bare(0),
     }
 }
 
@@ -116,9 +111,8 @@ pub extern "C" fn bench_command(profile: u64, line: &[u8]) -> Reading
 pub extern "C" fn bench_response(profile: u64, line: &[u8]) -> Reading
     ensures { result ≡ response_at profile line.now }
 {
-    let listed = Profile::of(profile);
-    match listed {
-        ListedProfile::Known(p) => of_response(lines::response::read_response(p, line)),
-        ListedProfile::Unlisted => bare(0),
+    match Profile::try_from(profile) {
+        Ok(p) => of_response(lines::response::read_response(p, line)),
+        Err(_) => bare(0),
     }
 }

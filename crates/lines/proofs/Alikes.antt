@@ -1,15 +1,15 @@
 -- Readings of texts and lines of equal shape are equal. Assumes nothing.
 use mathlib.Core.Path.{◌≡◌, refl, sym, ◌∙◌, ap}
-use mathlib.Core.Bool.{Bool, true, false, cond, ◌||◌, false≢true}
+use mathlib.Core.Bool.{Bool, true, false, cond, false≢true}
 use mathlib.Core.List.{List, [], ◌∷◌, ◌++◌, append_assoc, map-append}
 use Prim.Native.Nat.{ℕ, ◌+◌, ◌-◌}
 use native.Mathlib.Omega.{arith}
-use lib.Dec.{ltb, eqb}
+use lib.Dec.{ltb}
 use lib.ListN.{length, take, drop, length-append, length-map}
 use lib.Seq.{take_at, drop_at, drop-drop}
 use Rattle.octets.specs.Ascii.{ascii, capital, capitals}
 use Rattle.octets.specs.Lists.{is_empty, holds, same}
-use Rattle.octets.specs.declared.Measured.{Measured}
+use Rattle.std.specs.Prelude.{Option, Some, None, Err}
 use Rattle.octets.proofs.Cases.{split}
 use Rattle.octets.proofs.Lists.{cut}
 use Rattle.octets.proofs.Words.{same-apart, before-cut, after-cut, holds-cut}
@@ -25,9 +25,9 @@ use Rattle.lines.specs.Response.{response, decoding}
 use Rattle.lines.specs.Command.{forbidden, understood, command}
 use Rattle.lines.specs.Alike.{Alike, auth_line}
 use Rattle.lines.specs.declared.auth.Auth.{Auth}
-use Rattle.lines.specs.declared.auth.Auth.TheVariants.{Malformed, Initial}
+use Rattle.lines.specs.declared.auth.Auth.TheVariants.{Initial}
 use Rattle.lines.specs.declared.verb.Verb.TheVariants as Verbs
-use Rattle.lines.specs.declared.response.Response.TheVariants as Responses
+use Rattle.lines.specs.declared.response.ResponseError.TheVariants as Responses
 use Rattle.lines.specs.declared.command.Command.TheVariants as Commands
 use Rattle.lines.proofs.Lists.{holds-end, holds-capitals, same-empty}
 
@@ -45,19 +45,15 @@ measures r s a = same-measure r s a.left a.right a.lengths a.closings
 
 -- a response's reading tells nothing of base64 but its shape
 text-response : (p : Profile) (r : List ℕ) → valid r ≡ true
-    → response p r ≡ cond (ltb (response_limit p) (length r)) Responses.TooLong (decoding (measured r))
+    → response p r ≡ cond (ltb (response_limit p) (length r)) (Err Responses.TooLong) (decoding (measured r))
 unfolding response
 text-response p r h = rw (not-star r h)
 
 pub same-response : (p : Profile) (r s : List ℕ) → Alike r s → response p r ≡ response p s
-same-response p r s a =
-    text-response p r a.left
-    ∙ ap (λ (n : ℕ). cond (ltb (response_limit p) n) Responses.TooLong (decoding (measured r))) a.lengths
-    ∙ ap (λ (m : Measured). cond (ltb (response_limit p) (length s)) Responses.TooLong (decoding m)) (measures r s a)
-    ∙ sym (text-response p s a.right)
+same-response p r s a = rw (text-response p r a.left, text-response p s a.right, measures r s a, a.lengths)
 
 -- of a line with a space, which is neither "*" nor base64, only its length counts
-pub spaced : (p : Profile) (l : List ℕ) → holds space l ≡ true → response p l ≡ cond (ltb (response_limit p) (length l)) Responses.TooLong Responses.Malformed
+pub spaced : (p : Profile) (l : List ℕ) → holds space l ≡ true → response p l ≡ cond (ltb (response_limit p) (length l)) (Err Responses.TooLong) (Err Responses.Malformed)
 unfolding response
 spaced p l h =
     let s : same l (ascii "*") ≡ false = same-apart l (ascii "*") (λ e. false≢true (sym (ap (holds space) e) ∙ h)) in
@@ -69,9 +65,7 @@ lengths-line a m r s e = simp length-append (omega arith)
 
 pub spaced-response : (p : Profile) (a m r s : List ℕ) → length r ≡ length s → response p (auth_line a m r) ≡ response p (auth_line a m s)
 spaced-response p a m r s e =
-    spaced p (auth_line a m r) (holds-cut space a (m ++ (space ∷ r)))
-    ∙ ap (λ (n : ℕ). cond (ltb (response_limit p) n) Responses.TooLong Responses.Malformed) (lengths-line a m r s e)
-    ∙ sym (spaced p (auth_line a m s) (holds-cut space a (m ++ (space ∷ s))))
+    rw (spaced p (auth_line a m r) (holds-cut space a (m ++ (space ∷ r))), spaced p (auth_line a m s) (holds-cut space a (m ++ (space ∷ s))), lengths-line a m r s e)
 
 -- an AUTH line: four letters and a space, a mechanism without a space, a space, and the response
 module _ (a : List ℕ) (e : capitals a ≡ ascii "AUTH") (x : List ℕ) where
@@ -91,29 +85,21 @@ module _ (a : List ℕ) (e : capitals a ≡ ascii "AUTH") (x : List ℕ) where
   unfolding auth same
   auth-line = rw (first-five, after-five)
 
-arguments-line : (m r : List ℕ) → holds space m ≡ false → arguments (m ++ (space ∷ r)) ≡ cond (spelling m) (initial (5 + length m) r) Malformed
+arguments-line : (m r : List ℕ) → holds space m ≡ false → arguments (m ++ (space ∷ r)) ≡ cond (spelling m) (initial (5 + length m) r) None
 unfolding arguments
 arguments-line m r h = rw (before-cut space m r h, after-cut space m r h, holds-cut space m r)
 
-text-initial : (to : ℕ) (r : List ℕ) → valid r ≡ true → initial to r ≡ cond (is_empty r) Malformed (given to (measured r))
+text-initial : (to : ℕ) (r : List ℕ) → valid r ≡ true → initial to r ≡ cond (is_empty r) None (given to (measured r))
 unfolding initial
 text-initial to r h = rw (not-equals r h)
 
 same-initial : (to : ℕ) (r s : List ℕ) → Alike r s → initial to r ≡ initial to s
-same-initial to r s a =
-    text-initial to r a.left
-    ∙ ap (λ (b : Bool). cond b Malformed (given to (measured r))) (same-empty r s a.lengths)
-    ∙ ap (λ (k : Measured). cond (is_empty s) Malformed (given to k)) (measures r s a)
-    ∙ sym (text-initial to s a.right)
+same-initial to r s a = rw (text-initial to r a.left, text-initial to s a.right, same-empty r s a.lengths, measures r s a)
 
 -- an AUTH line's reading tells nothing of the response but its shape
 pub same-auth : (a m r s : List ℕ) → Alike r s → holds space m ≡ false → capitals a ≡ ascii "AUTH" → auth (auth_line a m r) ≡ auth (auth_line a m s)
 same-auth a m r s k h e =
-    auth-line a e (m ++ (space ∷ r))
-    ∙ arguments-line m r h
-    ∙ ap (λ (x : Auth). cond (spelling m) x Malformed) (same-initial (5 + length m) r s k)
-    ∙ sym (arguments-line m s h)
-    ∙ sym (auth-line a e (m ++ (space ∷ s)))
+    rw (auth-line a e (m ++ (space ∷ r)), auth-line a e (m ++ (space ∷ s)), arguments-line m r h, arguments-line m s h, same-initial (5 + length m) r s k)
 
 -- nor does the mechanism's name that it points to
 name-line : (a m r : List ℕ) → capitals a ≡ ascii "AUTH" → drop 5 (take (5 + length m) (auth_line a m r)) ≡ m
@@ -124,15 +110,15 @@ name-line a m r e =
     ∙ ap (take (length m)) (after-five a e (m ++ (space ∷ r)))
     ∙ take_at m (space ∷ r) (length m) refl
 
-named : (b c : Bool) (to : ℕ) (x : Measured) (l k : List ℕ) → drop 5 (take to l) ≡ drop 5 (take to k)
-    → name_text (cond b (Initial to (to + 2) 0) (cond c Malformed (given to x))) l ≡ name_text (cond b (Initial to (to + 2) 0) (cond c Malformed (given to x))) k
+named : (b c : Bool) (to : ℕ) (x : Option ℕ) (l k : List ℕ) → drop 5 (take to l) ≡ drop 5 (take to k)
+    → name_text (cond b (Some (Initial to (to + 2) 0)) (cond c None (given to x))) l ≡ name_text (cond b (Some (Initial to (to + 2) 0)) (cond c None (given to x))) k
 named true c to x l k e = ap capitals e
 named false true to x l k e = refl
-named false false to (Measured.Length n) l k e = ap capitals e
-named false false to Measured.Malformed l k e = refl
+named false false to (Some n) l k e = ap capitals e
+named false false to None l k e = refl
 
 name-initial : (b : Bool) (to : ℕ) (r l k : List ℕ) → drop 5 (take to l) ≡ drop 5 (take to k)
-    → name_text (cond b (initial to r) Malformed) l ≡ name_text (cond b (initial to r) Malformed) k
+    → name_text (cond b (initial to r) None) l ≡ name_text (cond b (initial to r) None) k
 unfolding initial
 name-initial true to r l k e = named (same r (ascii "=")) (is_empty r) to (measured r) l k e
 name-initial false to r l k e = refl
@@ -142,7 +128,7 @@ pub same-name-text : (a m r s : List ℕ) → Alike r s → holds space m ≡ fa
 same-name-text a m r s k h e =
     let n = name-line a m r e ∙ sym (name-line a m s e) in
     rw (auth-line a e (m ++ (space ∷ r)), arguments-line m r h) (name-initial (spelling m) (5 + length m) r (auth_line a m r) (auth_line a m s) n)
-    ∙ ap (λ (x : Auth). name_text x (auth_line a m s)) (same-auth a m r s k h e)
+    ∙ ap (λ (x : Option Auth). name_text x (auth_line a m s)) (same-auth a m r s k h e)
 
 -- and the text that it points to is the response
 text-line : (a m r : List ℕ) → capitals a ≡ ascii "AUTH" → drop (5 + length m + 1) (auth_line a m r) ≡ r
@@ -153,14 +139,14 @@ text-line a m r e =
     ∙ ap (drop (length m + 1)) (after-five a e (m ++ (space ∷ r)))
     ∙ (rw (← (append_assoc m (space ∷ []) r)) (drop_at (m ++ (space ∷ [])) r (length m + 1) (simp length-append (omega arith))))
 
-after-space : (b c : Bool) (k : Measured) (i to from n : ℕ) → cond b (cond c Malformed (given i k)) Malformed ≡ Initial to from n → from ≡ i + 1
-after-space true false (Measured.Length j) i to from n e = cc
-after-space true false Measured.Malformed i to from n e = let z : ◌≡◌ {A = ℕ} 0 1 = cc in absurd (omega arith)
-after-space true true k i to from n e = let z : ◌≡◌ {A = ℕ} 0 1 = cc in absurd (omega arith)
-after-space false c k i to from n e = let z : ◌≡◌ {A = ℕ} 0 1 = cc in absurd (omega arith)
+after-space : (b c : Bool) (k : Option ℕ) (i to from n : ℕ) → cond b (cond c None (given i k)) None ≡ Some (Initial to from n) → from ≡ i + 1
+after-space true false (Some j) i to from n e = cc
+after-space true false None i to from n e = absurd (cc)
+after-space true true k i to from n e = absurd (cc)
+after-space false c k i to from n e = absurd (cc)
 
 pub initial-text : (a m r : List ℕ) (to from n : ℕ) → capitals a ≡ ascii "AUTH" → holds space m ≡ false → valid r ≡ true
-    → auth (auth_line a m r) ≡ Initial to from n → drop from (auth_line a m r) ≡ r
+    → auth (auth_line a m r) ≡ Some (Initial to from n) → drop from (auth_line a m r) ≡ r
 initial-text a m r to from n e h v f =
     let g = sym (arguments-line m r h) ∙ sym (auth-line a e (m ++ (space ∷ r))) ∙ f in
     let z = after-space (spelling m) (is_empty r) (measured r) (5 + length m) to from n (rw (text-initial (5 + length m) r v) at g) in
@@ -183,8 +169,7 @@ command-line Pop3 a x e = rw (verb-line a x e)
 
 holds-line : (x : ℕ) (a m r s : List ℕ) → holds x r ≡ false → holds x s ≡ false → holds x (auth_line a m r) ≡ holds x (auth_line a m s)
 holds-line x a m r s h k =
-    holds-end x a (space ∷ (m ++ (space ∷ r))) (space ∷ (m ++ (space ∷ s)))
-    (ap (λ (b : Bool). eqb space x || b) (holds-end x m (space ∷ r) (space ∷ s) (ap (λ (b : Bool). eqb space x || b) (h ∙ sym k))))
+    holds-end x a (space ∷ (m ++ (space ∷ r))) (space ∷ (m ++ (space ∷ s))) (rw (holds-end x m (space ∷ r) (space ∷ s) (rw (h, k) refl)) refl)
 
 same-forbidden : (a m r s : List ℕ) → Alike r s → forbidden (auth_line a m r) ≡ forbidden (auth_line a m s)
 unfolding forbidden
@@ -200,7 +185,4 @@ same-understood p a m r s k = rw (lengths-line a m r s k.lengths, same-forbidden
 -- so a command's reading tells nothing of an initial response but its shape, whatever the line's length and mechanism
 pub same-command : (p : Profile) (a m r s : List ℕ) → capitals a ≡ ascii "AUTH" → holds space m ≡ false → Alike r s → command p (auth_line a m r) ≡ command p (auth_line a m s)
 same-command p a m r s e h k =
-    command-line p a (m ++ (space ∷ r)) e
-    ∙ ap (λ (b : Bool). cond b (Commands.Auth (auth (auth_line a m r))) Commands.NotUnderstood) (same-understood p a m r s k)
-    ∙ ap (λ (x : Auth). cond (understood p Verbs.Auth (auth_line a m s)) (Commands.Auth x) Commands.NotUnderstood) (same-auth a m r s k h e)
-    ∙ sym (command-line p a (m ++ (space ∷ s)) e)
+    rw (command-line p a (m ++ (space ∷ r)) e, command-line p a (m ++ (space ∷ s)) e, same-understood p a m r s k, same-auth a m r s k h e)

@@ -4,7 +4,6 @@ pub mod Names
 pub mod Verbs
 pub mod Auths
 pub mod Says
-pub mod Responses
 pub mod Commands
 pub mod Alikes
 pub mod Spellings

@@ -1,10 +1,9 @@
 -- AUTH lines that differ in the case of letters alone are read alike (M-105). Assumes nothing.
 use mathlib.Core.Path.{◌≡◌, refl, sym, ◌∙◌, ap, ap₂}
-use mathlib.Core.Bool.{Bool, false, cond, false≢true}
+use mathlib.Core.Bool.{false, false≢true}
 use mathlib.Core.List.{List, [], ◌∷◌, ◌++◌, map-append}
 use Prim.Native.Nat.{ℕ, ◌<◌}
 use native.Mathlib.Omega.{arith}
-use lib.Dec.{ltb}
 use lib.ListN.{length, length-map}
 use Rattle.octets.specs.Ascii.{ascii, capital, capitals}
 use Rattle.octets.specs.Lists.{holds, same, before, after}
@@ -12,8 +11,8 @@ use Rattle.octets.proofs.Cases.{split}
 use Rattle.octets.proofs.Words.{before-cut, after-cut, holds-cut}
 use Rattle.base64text.specs.Base64 as Base64
 use Rattle.base64text.proofs.Laws.{clean}
-use Rattle.profile.specs.Limits.{response_limit}
 use Rattle.profile.specs.declared.Profile.{Profile}
+use Rattle.std.specs.Prelude.{Option, Some, None}
 use Rattle.lines.specs.Alike.{SpelledAlike, alone, initial}
 use Rattle.lines.specs.Auth.{auth, arguments, name_text, initial_text}
 use Rattle.lines.specs.Command.{forbidden, understood, command}
@@ -22,9 +21,7 @@ use Rattle.lines.specs.Says as Say
 use Rattle.lines.specs.Says.{Says, arguments_say, auth_says, points_to}
 use Rattle.lines.specs.Verb.{space}
 use Rattle.lines.specs.declared.auth.Auth.{Auth}
-use Rattle.lines.specs.declared.auth.Auth.TheVariants.{Malformed, Alone, Initial}
-use Rattle.lines.specs.declared.command.Command.TheVariants as Commands
-use Rattle.lines.specs.declared.response.Response.TheVariants as Responses
+use Rattle.lines.specs.declared.auth.Auth.TheVariants.{Alone, Initial}
 use Rattle.lines.specs.declared.verb.Verb.TheVariants as Verbs
 use Rattle.lines.proofs.Alikes.{first-five, after-five, auth-line, command-line, spaced}
 use Rattle.lines.proofs.Lists.{holds-capitals, before-none, after_none}
@@ -98,16 +95,16 @@ octets_said Say.malformed = []
 octets_said (Say.alone m) = []
 octets_said (Say.initial m t) = t
 
-name-said : (x : Auth) (l : List ℕ) → name_text x l ≡ name_said (points_to x l)
-name-said Malformed l = refl
-name-said (Alone to) l = refl
-name-said (Initial to from n) l = refl
+name-said : (x : Option Auth) (l : List ℕ) → name_text x l ≡ name_said (points_to x l)
+name-said None l = refl
+name-said (Some (Alone to)) l = refl
+name-said (Some (Initial to from n)) l = refl
 
-octets-said : (x : Auth) (l : List ℕ) → Base64.octets (initial_text x l) ≡ octets_said (points_to x l)
+octets-said : (x : Option Auth) (l : List ℕ) → Base64.octets (initial_text x l) ≡ octets_said (points_to x l)
 unfolding Base64.octets
-octets-said Malformed l = refl
-octets-said (Alone to) l = refl
-octets-said (Initial to from n) l = refl
+octets-said None l = refl
+octets-said (Some (Alone to)) l = refl
+octets-said (Some (Initial to from n)) l = refl
 
 -- two lines that are read alike, where no exchange runs and where one does
 pub record ReadAlike (l k : List ℕ) : Type 0 where
@@ -139,17 +136,10 @@ module _ (a b x y : List ℕ) (e : capitals a ≡ ascii "AUTH") (f : capitals b 
   points = auth-says l ∙ line-says ∙ sym (auth-says k)
 
   line-commands : (p : Profile) → command p l ≡ command p k
-  line-commands p =
-      command-line p a x e
-      ∙ ap (λ (t : Bool). cond t (Commands.Auth (auth l)) Commands.NotUnderstood) (are-understood l k line-capitals p)
-      ∙ ap (λ (t : Auth). cond (understood p Verbs.Auth k) (Commands.Auth t) Commands.NotUnderstood) line_auths
-      ∙ sym (command-line p b y f)
+  line-commands p = rw (command-line p a x e, command-line p b y f, are-understood l k line-capitals p, line_auths)
 
   line-responses : (p : Profile) → response p l ≡ response p k
-  line-responses p =
-      spaced p l (holds-cut space a x)
-      ∙ ap (λ (n : ℕ). cond (ltb (response_limit p) n) Responses.TooLong Responses.Malformed) (lengths l k line-capitals)
-      ∙ sym (spaced p k (holds-cut space b y))
+  line-responses p = rw (spaced p l (holds-cut space a x), spaced p k (holds-cut space b y), lengths l k line-capitals)
 
   line-malformed : Base64.valid l ≡ false
   line-malformed = split (Base64.valid l) (λ v. absurd (false≢true (sym (clean l v).3 ∙ holds-cut space a x))) (λ v. v)

@@ -15,15 +15,7 @@ use Rattle.lines.specs.declared.command.Command.TheVariants as Commands
 -- "Length and forbidden octets are looked at first in every command." The limit of MAIL is its own.
 abbrev pub limit : Profile → Verb → ℕ
 limit p Verbs.Mail = mail_limit p
-limit p Verbs.Ehlo = command_limit p
-limit p Verbs.Helo = command_limit p
-limit p Verbs.Rset = command_limit p
-limit p Verbs.Quit = command_limit p
-limit p Verbs.Auth = command_limit p
-limit p Verbs.User = command_limit p
-limit p Verbs.Pass = command_limit p
-limit p Verbs.Apop = command_limit p
-limit p Verbs.Other = command_limit p
+limit p _ = command_limit p
 
 -- "holds NUL, CR, LF"
 unfoldable pub forbidden : List ℕ → Bool
@@ -48,10 +40,7 @@ smtp Verbs.Rset l = bare l Commands.Rset
 smtp Verbs.Quit l = bare l Commands.Quit
 smtp Verbs.Mail l = Commands.Mail (mail l)
 smtp Verbs.Auth l = Commands.Auth (auth l)
-smtp Verbs.User l = Commands.Other
-smtp Verbs.Pass l = Commands.Other
-smtp Verbs.Apop l = Commands.Other
-smtp Verbs.Other l = Commands.Other
+smtp _ l = Commands.Other
 
 -- "POP3: USER, PASS and APOP get the wrong-moment reply; AUTH is below; the rest is passed on."
 abbrev pub pop3 : Verb → List ℕ → Command
@@ -59,12 +48,7 @@ pop3 Verbs.User l = Commands.Barred
 pop3 Verbs.Pass l = Commands.Barred
 pop3 Verbs.Apop l = Commands.Barred
 pop3 Verbs.Auth l = Commands.Auth (auth l)
-pop3 Verbs.Ehlo l = Commands.Other
-pop3 Verbs.Helo l = Commands.Other
-pop3 Verbs.Rset l = Commands.Other
-pop3 Verbs.Quit l = Commands.Other
-pop3 Verbs.Mail l = Commands.Other
-pop3 Verbs.Other l = Commands.Other
+pop3 _ l = Commands.Other
 
 abbrev pub by : Profile → Verb → List ℕ → Command
 by Smtp v l = smtp v l

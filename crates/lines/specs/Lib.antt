@@ -6,4 +6,3 @@ pub mod Says
 pub mod Response
 pub mod Command
 pub mod Alike
-pub mod Private

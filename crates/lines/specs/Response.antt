@@ -2,17 +2,17 @@
 use Rattle.std.specs.Prelude.{cond, List, ℕ, ltb, length}
 use Rattle.octets.specs.Ascii.{ascii}
 use Rattle.octets.specs.Lists.{same}
-use Rattle.octets.specs.declared.Measured.{Measured}
+use Rattle.std.specs.Prelude.{Option, Some, None, Result, Ok, Err}
 use Rattle.base64text.specs.Base64
 use Rattle.profile.specs.Limits.{response_limit}
 use Rattle.profile.specs.declared.Profile.{Profile}
-use Rattle.lines.specs.declared.response.Response.{Response}
-use Rattle.lines.specs.declared.response.Response.TheVariants.{TooLong, Cancelled, Malformed, Length}
+use Rattle.lines.specs.declared.response.ResponseError.{ResponseError}
+use Rattle.lines.specs.declared.response.ResponseError.TheVariants.{TooLong, Cancelled, Malformed}
 
-abbrev pub decoding : Measured → Response
-decoding (Measured.Length n) = Length n
-decoding Measured.Malformed = Malformed
+abbrev pub decoding : Option ℕ → Result ℕ ResponseError
+decoding (Some n) = Ok n
+decoding None = Err Malformed
 
 -- "too long; "*"; not base64; else ask. An empty line is zero octets. "=" is not base64."
-unfoldable pub response : Profile → List ℕ → Response
-response p l = cond (ltb (response_limit p) (length l)) TooLong (cond (same l (ascii "*")) Cancelled (decoding (Base64.measured l)))
+unfoldable pub response : Profile → List ℕ → Result ℕ ResponseError
+response p l = cond (ltb (response_limit p) (length l)) (Err TooLong) (cond (same l (ascii "*")) (Err Cancelled) (decoding (Base64.measured l)))

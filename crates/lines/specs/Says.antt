@@ -4,11 +4,12 @@ use Rattle.std.specs.Prelude.{cond, List, [], ℕ, take, drop}
 use Rattle.octets.specs.Ascii.{ascii, capitals}
 use Rattle.octets.specs.Lists.{is_empty, holds, same, before, after}
 use Rattle.base64text.specs.Base64
+use Rattle.std.specs.Prelude.{Option, Some, None}
 use Rattle.lines.specs.Auth.{name_text, initial_text}
 use Rattle.lines.specs.Mechanism.{spelling}
 use Rattle.lines.specs.Verb.{space}
 use Rattle.lines.specs.declared.auth.Auth.{Auth}
-use Rattle.lines.specs.declared.auth.Auth.TheVariants.{Malformed, Alone, Initial}
+use Rattle.lines.specs.declared.auth.Auth.TheVariants.{Alone, Initial}
 
 -- the line is not of the form; it names a mechanism, here in capitals; it names one and has an initial response of these octets
 pub data Says : Type 0 where
@@ -34,7 +35,7 @@ unfoldable pub auth_says : List ℕ → Says
 auth_says l = cond (same (capitals (take 5 l)) (ascii "AUTH ")) (arguments_say (drop 5 l)) malformed
 
 -- what a reading points to in the line l that was read
-abbrev pub points_to : Auth → List ℕ → Says
-points_to Malformed l = malformed
-points_to (Alone to) l = alone (name_text (Alone to) l)
-points_to (Initial to from n) l = initial (name_text (Initial to from n) l) (Base64.octets (initial_text (Initial to from n) l))
+abbrev pub points_to : Option Auth → List ℕ → Says
+points_to None l = malformed
+points_to (Some (Alone to)) l = alone (name_text (Some (Alone to)) l)
+points_to (Some (Initial to from n)) l = initial (name_text (Some (Initial to from n)) l) (Base64.octets (initial_text (Some (Initial to from n)) l))

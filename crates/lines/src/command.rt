@@ -1,16 +1,18 @@
 // A line where no exchange runs.
-ghost use Rattle.std.specs.Prelude.{◌≡◌};
-ghost use Rattle.lines.specs.Command.{argued, bare, command, forbidden, limit, pop3, smtp, understood};
-ghost use Rattle.lines.specs.Private.{forbidden_octet};
+ghost use Rattle.std.specs.Prelude.{◌≡◌, not};
+ghost use Rattle.octets.specs.Lists.{is_empty, holds, after};
+ghost use Rattle.lines.specs.Verb.{space};
+ghost use Rattle.lines.specs.Command.{command, forbidden, limit, pop3, smtp, understood};
 
 use crate::auth::{Auth, read_auth};
 use crate::verb::{Verb, read_verb};
 use mail::Mail;
 use profile::Profile;
 
-// A line where no exchange runs. NotUnderstood: too long, or with a forbidden octet. Malformed: EHLO, HELO, RSET or QUIT not of its form.
-// Barred: a verb that is never permitted. Other: any verb without a rule.
-#[derive(Clone, Copy)]
+// A line where no exchange runs. NotUnderstood: too long, or with a forbidden octet. Malformed: EHLO, HELO, RSET or QUIT not of its form; a MAIL or an
+// AUTH that is not has no reading. Neither is an error: a session answers each case with a text of its own. Barred: a verb that is never permitted.
+// Other: any verb without a rule.
+#[derive(Clone, Copy, Debug, PartialEq, Eq)]
 pub enum Command {
     NotUnderstood,
     Malformed,
@@ -18,31 +20,17 @@ pub enum Command {
     Helo,
     Rset,
     Quit,
-    Mail(Mail),
-    Auth(Auth),
+    Mail(Option<Mail>),
+    Auth(Option<Auth>),
     Barred,
     Other,
 }
 
-// NUL, CR and LF.
-fn is_forbidden(x: u8) -> bool
-    ensures { result ≡ forbidden_octet x }
-{
-    (x == 0) | (x == b'\r') | (x == b'\n')
-}
-
-// Whether a line holds one of them.
+// Whether a line holds NUL, CR or LF.
 fn holds_forbidden(line: &[u8]) -> bool
     ensures { result ≡ forbidden line.now }
 {
-    let mut i: usize = 0;
-    while i < line.len() {
-        if is_forbidden(line[i]) {
-            return true;
-        }
-        i += 1;
-    }
-    false
+    line.iter().any(|x| matches!(x, 0 | b'\r' | b'\n'))
 }
 
 // The longest line with a verb.
@@ -51,48 +39,32 @@ fn limit(p: Profile, verb: Verb) -> usize
 {
     match verb {
         Verb::Mail => p.mail_limit(),
-        Verb::Ehlo => p.command_limit(),
-        Verb::Helo => p.command_limit(),
-        Verb::Rset => p.command_limit(),
-        Verb::Quit => p.command_limit(),
-        Verb::Auth => p.command_limit(),
-        Verb::User => p.command_limit(),
-        Verb::Pass => p.command_limit(),
-        Verb::Apop => p.command_limit(),
-        Verb::Other => p.command_limit(),
+        _ => p.command_limit(),
     }
 }
 
 // Whether a line is not too long and holds no forbidden octet. One that is too long is not read through.
+#[tactic(auto, unfolding(crate::specs::Command::understood))]
 fn is_understood(p: Profile, verb: Verb, line: &[u8]) -> bool
     ensures { result ≡ understood p verb line.now }
 {
-    if limit(p, verb) < line.len() {
-        return false;
-    }
-    !holds_forbidden(line)
+    line.len() <= limit(p, verb) && !holds_forbidden(line)
 }
 
-// The command, if a space and at least one octet more follow the verb.
-fn argued(line: &[u8], command: Command) -> Command
-    ensures { result ≡ argued line.now command }
+// Whether a space and at least one octet more follow the verb.
+#[tactic(auto, using(crate::proofs::Commands::ends))]
+fn has_argument(line: &[u8]) -> bool
+    ensures { result ≡ not (is_empty (after space line.now)) }
 {
-    let end = octets::find(line, 0, b' ');
-    if line.len() <= end + 1 {
-        return Command::Malformed;
-    }
-    command
+    octets::find(line, 0, b' ') + 1 < line.len()
 }
 
-// The command, if nothing follows the verb.
-fn bare(line: &[u8], command: Command) -> Command
-    ensures { result ≡ bare line.now command }
+// Whether nothing follows the verb.
+#[tactic(auto, using(crate::proofs::Commands::ends))]
+fn is_bare(line: &[u8]) -> bool
+    ensures { result ≡ not (holds space line.now) }
 {
-    let end = octets::find(line, 0, b' ');
-    if end < line.len() {
-        return Command::Malformed;
-    }
-    command
+    octets::find(line, 0, b' ') == line.len()
 }
 
 // A command of an SMTP client, by its verb.
@@ -100,16 +72,14 @@ fn smtp(verb: Verb, line: &[u8]) -> Command
     ensures { result ≡ smtp verb line.now }
 {
     match verb {
-        Verb::Ehlo => argued(line, Command::Ehlo),
-        Verb::Helo => argued(line, Command::Helo),
-        Verb::Rset => bare(line, Command::Rset),
-        Verb::Quit => bare(line, Command::Quit),
+        Verb::Ehlo if has_argument(line) => Command::Ehlo,
+        Verb::Helo if has_argument(line) => Command::Helo,
+        Verb::Rset if is_bare(line) => Command::Rset,
+        Verb::Quit if is_bare(line) => Command::Quit,
+        Verb::Ehlo | Verb::Helo | Verb::Rset | Verb::Quit => Command::Malformed,
         Verb::Mail => Command::Mail(mail::read_mail(line)),
         Verb::Auth => Command::Auth(read_auth(line)),
-        Verb::User => Command::Other,
-        Verb::Pass => Command::Other,
-        Verb::Apop => Command::Other,
-        Verb::Other => Command::Other,
+        _ => Command::Other,
     }
 }
 
@@ -118,20 +88,14 @@ fn pop3(verb: Verb, line: &[u8]) -> Command
     ensures { result ≡ pop3 verb line.now }
 {
     match verb {
-        Verb::User => Command::Barred,
-        Verb::Pass => Command::Barred,
-        Verb::Apop => Command::Barred,
+        Verb::User | Verb::Pass | Verb::Apop => Command::Barred,
         Verb::Auth => Command::Auth(read_auth(line)),
-        Verb::Ehlo => Command::Other,
-        Verb::Helo => Command::Other,
-        Verb::Rset => Command::Other,
-        Verb::Quit => Command::Other,
-        Verb::Mail => Command::Other,
-        Verb::Other => Command::Other,
+        _ => Command::Other,
     }
 }
 
 // A line where no exchange runs.
+#[tactic(auto, unfolding(crate::specs::Command::command))]
 pub fn read_command(p: Profile, line: &[u8]) -> Command
     ensures { result ≡ command p line.now }
 {

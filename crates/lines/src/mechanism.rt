@@ -1,9 +1,8 @@
 // Mechanism names: their form, and the twenty octets in which one is kept and compared.
-ghost use Rattle.std.specs.Prelude.{◌≡◌};
+ghost use Rattle.std.specs.Prelude.{◌≡◌, ℕ, Bool};
 ghost use Rattle.octets.specs.Ascii.{capitals};
-ghost use Rattle.octets.specs.Lists.{same};
-ghost use Rattle.lines.specs.Mechanism.{mech_char, mechanism, spelling, padded};
-ghost use Rattle.lines.specs.Private.{name_char, formed};
+ghost use Rattle.octets.specs.Lists.{same, one_to};
+ghost use Rattle.lines.specs.Mechanism.{mech_char, longest_mechanism, mechanism, spelling, padded};
 
 // A name has at most so many octets, and is kept in as many.
 pub const LONGEST_MECHANISM: usize = 20;
@@ -12,76 +11,53 @@ pub const LONGEST_MECHANISM: usize = 20;
 pub fn is_mech_char(x: u8) -> bool
     ensures { result ≡ mech_char x }
 {
-    (b'A' <= x) & (x <= b'Z') | (b'0' <= x) & (x <= b'9') | (x == b'-') | (x == b'_')
+    x.is_ascii_uppercase() || x.is_ascii_digit() || x == b'-' || x == b'_'
 }
 
-// The same; where `small` is true a small letter may stand there too, as it is read as a capital.
-fn is_name_char(x: u8, small: bool) -> bool
-    ensures { result ≡ name_char small x }
+// Whether a text has one to twenty octets, each of which passes a test.
+fn is_formed<F: Fn(u8) -> bool>(text: &[u8], test: F) -> bool
+    requires { F.IsAlwaysCallable test }
+    ensures { (f : ℕ → Bool) → ((x : ℕ) (b : Bool) → F.post test x b → b ≡ f x) → result ≡ one_to longest_mechanism f text.now }
 {
-    is_mech_char(x) | small & (b'a' <= x) & (x <= b'z')
-}
-
-// Whether a text has one to twenty such octets, and no others.
-fn is_formed(text: &[u8], small: bool) -> bool
-    ensures { result ≡ formed small text.now }
-{
-    if text.len() < 1 {
-        return false;
-    }
-    if LONGEST_MECHANISM < text.len() {
-        return false;
-    }
-    let mut i: usize = 0;
-    while i < text.len() {
-        if !is_name_char(text[i], small) {
-            return false;
-        }
-        i += 1;
-    }
-    true
+    (1..=LONGEST_MECHANISM).contains(&text.len()) && text.iter().all(|&x| test(x))
 }
 
 // Whether a text is of a mechanism name's form.
 pub fn is_mechanism(name: &[u8]) -> bool
     ensures { result ≡ mechanism name.now }
 {
-    is_formed(name, false)
+    is_formed(name, is_mech_char)
 }
 
 // Whether a text spells a name: whether it is of that form with its small letters read as capitals.
 pub fn is_spelling(text: &[u8]) -> bool
     ensures { result ≡ spelling text.now }
 {
-    is_formed(text, true)
+    is_formed(text, |x| is_mech_char(x) || x.is_ascii_lowercase())
 }
 
 // A name in twenty octets, padded with NUL. A longer text, which is no name, is cut.
+#[tactic(auto, unfolding(crate::specs::Mechanism::padded))]
 pub fn name_of(name: &[u8]) -> [u8; LONGEST_MECHANISM]
     ensures { result ≡ padded name.now }
 {
-    let mut kept = [0u8; LONGEST_MECHANISM];
-    octets::write(octets::part(name, 0, LONGEST_MECHANISM), &mut kept, 0);
-    kept
+    octets::padded_to(name)
 }
 
 // The name that a text spells, in twenty octets: its small letters as capitals. A longer text, which spells none, is cut.
+#[tactic(auto, using(crate::proofs::Names::spelled))]
 pub fn name_spelled(text: &[u8]) -> [u8; LONGEST_MECHANISM]
     ensures { result ≡ padded (capitals text.now) }
 {
-    let word = octets::part(text, 0, LONGEST_MECHANISM);
-    let mut kept = [0u8; LONGEST_MECHANISM];
-    let mut i: usize = 0;
-    while i < word.len() {
-        kept[i] = octets::capital(word[i]);
-        i += 1;
-    }
-    kept
+    let mut name = name_of(text);
+    name.make_ascii_uppercase();
+    name
 }
 
 // Whether two names are the same.
+#[tactic(auto, using(octets::proofs::Chains::same_is))]
 pub fn same_name(a: [u8; LONGEST_MECHANISM], b: [u8; LONGEST_MECHANISM]) -> bool
     ensures { result ≡ same a b }
 {
-    octets::same(&a, &b)
+    a == b
 }

@@ -2,31 +2,42 @@
 ghost use Rattle.std.specs.Prelude.{◌≡◌};
 ghost use Rattle.lines.specs.Response.{response};
 
-use octets::Measured;
+use base64text::Base64;
+use octets::reader::measure_at;
 use profile::Profile;
+use std::error::Error;
+use std::fmt;
 
-// A response in an exchange. Length: it is base64 of so many octets.
-#[derive(Clone, Copy)]
-pub enum Response {
+// Why a response is not base64 of a length that is read.
+#[derive(Clone, Copy, Debug, PartialEq, Eq)]
+pub enum ResponseError {
     TooLong,
     Cancelled,
     Malformed,
-    Length(usize),
 }
 
-// A response in an exchange.
-pub fn read_response(p: Profile, line: &[u8]) -> Response
+impl fmt::Display for ResponseError {
+    fn fmt<W: fmt::Write>(&self, f: &mut fmt::Formatter<W>) -> fmt::Result {
+        f.write_str(match self {
+            ResponseError::TooLong => "too long",
+            ResponseError::Cancelled => "cancelled",
+            ResponseError::Malformed => "malformed",
+        })
+    }
+}
+
+impl Error for ResponseError {}
+
+// A response in an exchange: of how many octets it is the base64.
+#[tactic(auto, using(octets::proofs::Chains::same_is), unfolding(crate::specs::Response::response))]
+pub fn read_response(p: Profile, line: &[u8]) -> Result<usize, ResponseError>
     ensures { result ≡ response p line.now }
 {
     if p.response_limit() < line.len() {
-        return Response::TooLong;
+        return Err(ResponseError::TooLong);
     }
-    if octets::same(line, b"*") {
-        return Response::Cancelled;
+    if line == b"*".as_slice() {
+        return Err(ResponseError::Cancelled);
     }
-    let m = base64text::reader::measure_at(line, 0);
-    match m {
-        Measured::Length(n) => Response::Length(n),
-        Measured::Malformed => Response::Malformed,
-    }
+    measure_at::<Base64>(line, 0).ok_or(ResponseError::Malformed)
 }

@@ -4,7 +4,7 @@ ghost use Rattle.octets.specs.Ascii.{capitals};
 ghost use Rattle.lines.specs.Verb.{verb, verb_of};
 
 // The verbs that have rules of their own.
-#[derive(Clone, Copy)]
+#[derive(Clone, Copy, Debug, PartialEq, Eq)]
 pub enum Verb {
     Ehlo,
     Helo,
@@ -19,43 +19,32 @@ pub enum Verb {
 }
 
 // The verb of a line. Each that has rules is four octets long, so the line is read no further than its fifth octet.
+#[tactic(auto, using(crate::proofs::Verbs::verbs))]
 pub fn read_verb(line: &[u8]) -> Verb
     ensures { result ≡ verb_of (verb line.now) }
 {
-    let head = octets::part(line, 0, 5);
-    verb_of(octets::part(head, 0, octets::find(head, 0, b' ')))
+    match line {
+        [a, b, c, d] | [a, b, c, d, b' ', ..] => verb_of([*a, *b, *c, *d]),
+        _ => Verb::Other,
+    }
 }
 
-// The verb that a word is, case ignored.
-fn verb_of(word: &[u8]) -> Verb
-    ensures { result ≡ verb_of (capitals word.now) }
+// The verb that four octets are, case ignored.
+#[tactic(auto, using(crate::proofs::Verbs::words), unfolding(crate::specs::Verb::verb_of))]
+fn verb_of(mut word: [u8; 4]) -> Verb
+    ensures { result ≡ verb_of (capitals word) }
 {
-    if octets::is_word(word, b"EHLO") {
-        return Verb::Ehlo;
+    word.make_ascii_uppercase();
+    match &word {
+        b"EHLO" => Verb::Ehlo,
+        b"HELO" => Verb::Helo,
+        b"RSET" => Verb::Rset,
+        b"QUIT" => Verb::Quit,
+        b"MAIL" => Verb::Mail,
+        b"AUTH" => Verb::Auth,
+        b"USER" => Verb::User,
+        b"PASS" => Verb::Pass,
+        b"APOP" => Verb::Apop,
+        _ => Verb::Other,
     }
-    if octets::is_word(word, b"HELO") {
-        return Verb::Helo;
-    }
-    if octets::is_word(word, b"RSET") {
-        return Verb::Rset;
-    }
-    if octets::is_word(word, b"QUIT") {
-        return Verb::Quit;
-    }
-    if octets::is_word(word, b"MAIL") {
-        return Verb::Mail;
-    }
-    if octets::is_word(word, b"AUTH") {
-        return Verb::Auth;
-    }
-    if octets::is_word(word, b"USER") {
-        return Verb::User;
-    }
-    if octets::is_word(word, b"PASS") {
-        return Verb::Pass;
-    }
-    if octets::is_word(word, b"APOP") {
-        return Verb::Apop;
-    }
-    Verb::Other
 }

@@ -16,7 +16,8 @@ use Rattle.xtext.proofs.Laws.{length-octets}
 use Rattle.mail.specs.Address.{address}
 use Rattle.mail.specs.Parameter.{equals, named, good, null, AUTH, SUBMITTER, auth_value}
 use Rattle.mail.specs.Mail.{space, greater, opens, path_ends, rest, onto, words, spaced, parameters, count, all_good, said, identity, well_formed, mail_at, mail, address_text}
-use Rattle.mail.specs.declared.Mail.TheVariants.{Malformed, Null, Address}
+use Rattle.std.specs.Prelude.{Some, None}
+use Rattle.mail.specs.declared.Mail.TheVariants.{Null, Address}
 use Rattle.mail.specs.Says.{malformed, absent, value_says, auth_says, line_says, points_to}
 use Rattle.mail.specs.Says as Say
 use Rattle.mail.proofs.Whole.{value-drop, value-length, good-auth, rest-drop}
@@ -86,7 +87,7 @@ identity-read l (w ∷ ws) i from to n h e f =
     (λ a. identity-read l ws (i + length w + 1) from to n h.1 g.1 (rw a at f))
 
 -- what a reading points to is xtext of an address of the length told
-module _ (l : List ℕ) (from to n : ℕ) (e : mail l ≡ Address from to n) where
+module _ (l : List ℕ) (from to n : ℕ) (e : mail l ≡ Some (Address from to n)) where
   rest_read : (r : List ℕ) (j : ℕ) → r ≡ drop j l → every good (parameters r) ≡ true → identity (length l - length r + 1) (parameters r) ≡ Address from to n → Reads (slice from to l) n
   unfolding identity
   rest_read [] j g h f = let z : ◌≡◌ {A = ℕ} 0 1 = cc in absurd (omega arith)
@@ -95,35 +96,35 @@ module _ (l : List ℕ) (from to n : ℕ) (e : mail l ≡ Address from to n) whe
       let z : drop (j + 1) l ≡ r = sym (drop-drop 1 j l) ∙ ap (drop 1) (sym g) in
       identity-read l (words r) (j + 1) from to n (placed l r (j + 1) z) h (rw y at f)
 
-  pub address_read : (Xtext.valid (address_text (Address from to n) l) ≡ true) × (n ≡ length (Xtext.octets (address_text (Address from to n) l))) × (address (Xtext.octets (address_text (Address from to n) l)) ≡ true)
+  pub address_read : (Xtext.valid (address_text (Some (Address from to n)) l) ≡ true) × (n ≡ length (Xtext.octets (address_text (Some (Address from to n)) l))) × (address (Xtext.octets (address_text (Some (Address from to n)) l)) ≡ true)
   unfolding mail mail_at well_formed all_good
   address_read = go (well_formed l) refl e
     where
-      go : (b : Bool) → well_formed l ≡ b → cond b (identity (length l - length (rest l) + 1) (parameters (rest l))) Malformed ≡ Address from to n → Reads (slice from to l) n
+      go : (b : Bool) → well_formed l ≡ b → cond b (Some (identity (length l - length (rest l) + 1) (parameters (rest l)))) None ≡ Some (Address from to n) → Reads (slice from to l) n
       go true w f =
           let ps = parameters (rest l) in
           let h = (both (opens l && path_ends l && spaced (rest l)) (all_good ps) w).1 in
           let k = (both (every good ps && leb (count AUTH ps) 1) (leb (count SUBMITTER ps) 1) h).0 in
-          rest_read (rest l) (11 + suc (length (before greater (drop 11 l)))) (rest-drop l) (both (every good ps) (leb (count AUTH ps) 1) k).0 f
+          rest_read (rest l) (11 + suc (length (before greater (drop 11 l)))) (rest-drop l) (both (every good ps) (leb (count AUTH ps) 1) k).0 (cc)
       go false w f = let z : ◌≡◌ {A = ℕ} 0 1 = cc in absurd (omega arith)
 
   -- so its octets fit where the line does
   pub address-within : n ≤ length l
   address-within =
-      let t = address_text (Address from to n) l in
+      let t = address_text (Some (Address from to n)) l in
       omega (arith, address_read.1, length-octets t, length-drop from (take to l), length-take to l)
 
 -- ---- what a reading points to is what the line's AUTH says
 
-said-says : (l v : List ℕ) (i : ℕ) → slice i (i + length v) l ≡ v → points_to (said i v) l ≡ value_says v
+said-says : (l v : List ℕ) (i : ℕ) → slice i (i + length v) l ≡ v → points_to (Some (said i v)) l ≡ value_says v
 unfolding said
 said-says l v i e = go (null v)
   where
-    go : (b : Bool) → points_to (cond b Null (Address i (i + length v) (length (Xtext.octets v)))) l ≡ cond b Say.null (Say.address (Xtext.octets v))
+    go : (b : Bool) → points_to (Some (cond b Null (Address i (i + length v) (length (Xtext.octets v))))) l ≡ cond b Say.null (Say.address (Xtext.octets v))
     go true = refl
     go false = ap (λ (t : List ℕ). Say.address (Xtext.octets t)) e
 
-identity-says : (l : List ℕ) (ws : List (List ℕ)) (i : ℕ) → Placed l i ws → points_to (identity i ws) l ≡ auth_says ws
+identity-says : (l : List ℕ) (ws : List (List ℕ)) (i : ℕ) → Placed l i ws → points_to (Some (identity i ws)) l ≡ auth_says ws
 unfolding identity auth_says
 identity-says l [] i h = refl
 identity-says l (w ∷ ws) i h =
@@ -131,7 +132,7 @@ identity-says l (w ∷ ws) i h =
     (λ a. rw a (said-says l (after equals w) (i + length AUTH + 1) (value-placed l w i h.0 a)))
     (λ a. rw a (identity-says l ws (i + length w + 1) h.1))
 
-rest-says : (l r : List ℕ) (j : ℕ) → r ≡ drop j l → points_to (identity (length l - length r + 1) (parameters r)) l ≡ auth_says (parameters r)
+rest-says : (l r : List ℕ) (j : ℕ) → r ≡ drop j l → points_to (Some (identity (length l - length r + 1) (parameters r))) l ≡ auth_says (parameters r)
 unfolding identity auth_says
 rest-says l [] j g = refl
 rest-says l (x ∷ r) j g =
@@ -144,6 +145,6 @@ pub mail-says : (l : List ℕ) → points_to (mail l) l ≡ line_says l
 unfolding mail mail_at
 mail-says l = go (well_formed l)
   where
-    go : (b : Bool) → points_to (cond b (identity (length l - length (rest l) + 1) (parameters (rest l))) Malformed) l ≡ cond b (auth_says (parameters (rest l))) malformed
+    go : (b : Bool) → points_to (cond b (Some (identity (length l - length (rest l) + 1) (parameters (rest l)))) None) l ≡ cond b (auth_says (parameters (rest l))) malformed
     go true = rest-says l (rest l) (11 + suc (length (before greater (drop 11 l)))) (rest-drop l)
     go false = refl

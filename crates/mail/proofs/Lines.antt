@@ -1,19 +1,22 @@
 -- The parameters of a line, one after the other, each after a space. Assumes nothing.
 use mathlib.Core.Path.{◌≡◌, refl, sym, ◌∙◌, ap}
-use mathlib.Core.Bool.{Bool, true, false, cond, false≢true}
+use mathlib.Core.Bool.{Bool, true, false, cond}
 use mathlib.Core.List.{List, [], ◌∷◌}
 use Prim.Native.Nat.{ℕ, ◌+◌, ◌<◌, ◌≤◌}
 use native.Mathlib.Numerals.{add-one}
 use native.Mathlib.Omega.{arith}
-use borrow.Author.Tests.{eq-eqb, ne_eqb, not-true, not-false}
+use borrow.Author.Tests.{eq-eqb, ne_eqb}
 use lib.Dec.{eqb}
 use lib.ListN.{length, get_or, drop, drop_of_length-le}
 use lib.Seq.{drop-cons, drop-drop}
-use Rattle.octets.specs.Lists.{before, after}
-use Rattle.mail.specs.Parameter.{equals, named, good, null, AUTH, SUBMITTER}
+use Rattle.octets.specs.Lists.{before}
+use Rattle.mail.specs.Parameter.{good}
 use Rattle.mail.specs.Mail.{space, spaced, onto, words, parameters}
-use Rattle.mail.specs.Private.{saying, found, read, is_absent, refused, onward, read_words, read_parameters}
+use Rattle.mail.specs.Private.{ends_at, found, read, onward, read_words, read_parameters}
+use Rattle.std.proofs.lemmas.Option.{cond_some}
+use Rattle.std.specs.Prelude.{Option, Some, None, option_and_then}
 use Rattle.mail.specs.declared.Mail.{Mail}
+use Rattle.octets.specs.declared.reader.Reading.{Reading}
 use Rattle.mail.specs.declared.parameter.Parameter.{Parameter}
 
 -- the first word, and what stands after it
@@ -42,97 +45,67 @@ spaced-past (x ∷ m) = go (eqb x space) refl (spaced-past m)
     go true e ih = e
     go false e ih = ih
 
--- the line's end, and what is no space
+-- a parameter that is read ends where the word does
+read-ends : (i : ℕ) (w : List ℕ) (p : Reading Parameter) → read i w ≡ Some p → p.at ≡ i + length w
+unfolding read
+read-ends i w p e = sym (ap (λ (p : Reading Parameter). p.at) (cond_some (good w) (ends_at (found i w) (i + length w)) p e).1)
+
 module _ (l : List ℕ) (i : ℕ) (a : Mail) (s : Bool) where
-  pub rest_end : length l ≤ i → a ≡ read_parameters a s i (drop i l)
+  -- the line's end, and what is no space
+  pub rest_end : length l ≤ i → read_parameters a s i (drop i l) ≡ Some a
   unfolding read_parameters read_words
   rest_end h = rw (drop_of_length-le l {i = i} h)
 
-  pub no-space : i < length l → (get_or l i 0 ≡ space → ⊥) → Mail.Malformed ≡ read_parameters a s i (drop i l)
+  pub no-space : i < length l → (get_or l i 0 ≡ space → ⊥) → read_parameters a s i (drop i l) ≡ None
   unfolding read_parameters
   no-space h e = rw (drop-cons l i 0 h, ne_eqb (get_or l i 0) space e)
 
--- a parameter that is read ends where it ends
-abbrev Ends : ℕ → Parameter → Type 0
-Ends k Parameter.Malformed = Unit {0}
-Ends k (Parameter.Other e) = k ≡ e
-Ends k (Parameter.Null e) = k ≡ e
-Ends k (Parameter.Address from to n) = k ≡ to
-Ends k (Parameter.Submitter e) = k ≡ e
+  -- a turn: the parameter after a space, as it was read
+  module _ (h : i < length l) (g : get_or l i 0 ≡ space) where
+    abbrev onwards : Reading Parameter → Option Mail
+    onwards p = onward a s p.answer (λ b t. read_words b t (p.at + 1) (parameters (past (drop (i + 1) l))))
 
-either : (k : ℕ) (b : Bool) (x y : Parameter) → Ends k x → Ends k y → Ends k (cond b x y)
-either k true x y p q = p
-either k false x y p q = q
+    turn : read_parameters a s i (drop i l) ≡ option_and_then onwards (read (i + 1) (before space (drop (i + 1) l)))
+    unfolding read_parameters read_words
+    turn = rw (drop-cons l i 0 h, eq-eqb (get_or l i 0) space g, ← add-one i) (ap (read_words a s (i + 1)) (words_are (drop (i + 1) l)))
 
-read-ends : (i : ℕ) (w : List ℕ) → Ends (i + length w) (read i w)
-unfolding read found saying
-read-ends i w =
-    let k = i + length w in
-    either k (good w) _ _
-    (either k (named AUTH w) _ _
-    (either k (null (after equals w)) _ _ refl refl)
-    (either k (named SUBMITTER w) _ _ refl refl))
-    tt
+    pub no-word : read (i + 1) (before space (drop (i + 1) l)) ≡ None → read_parameters a s i (drop i l) ≡ None
+    no-word e = turn ∙ rw e
 
--- a parameter that may not come
-refused-is : (a : Mail) (s : Bool) (p : Parameter) (k : Mail → Bool → ℕ → Mail) → refused a s p ≡ true → onward a s p k ≡ Mail.Malformed
-refused-is a s Parameter.Malformed k e = refl
-refused-is a s (Parameter.Other n) k e = absurd (false≢true e)
-refused-is a s (Parameter.Null n) k e = rw (not-true (is_absent a) e)
-refused-is a s (Parameter.Address from to n) k e = rw (not-true (is_absent a) e)
-refused-is a s (Parameter.Submitter n) k e = rw e
+    module _ (p : Reading Parameter) (e : read (i + 1) (before space (drop (i + 1) l)) ≡ Some p) where
+      pub moves : i < p.at
+      moves = omega (arith, read-ends (i + 1) (before space (drop (i + 1) l)) p e)
 
--- a turn: the parameter after a space, as it was read
-module _ (l : List ℕ) (i : ℕ) (h : i < length l) (g : get_or l i 0 ≡ space) (a : Mail) (s : Bool) (p : Parameter) (d : p ≡ read (i + 1) (before space (drop (i + 1) l))) where
-  starts : read_parameters a s i (drop i l) ≡ read_words a s (i + 1) (words (drop (i + 1) l))
-  unfolding read_parameters
-  starts = rw (add-one, drop-cons l i 0 h, eq-eqb (get_or l i 0) space g)
+      goes_on : (b : Mail) (t : Bool) → read_parameters b t p.at (drop p.at l) ≡ read_words b t (p.at + 1) (parameters (past (drop (i + 1) l)))
+      unfolding read_parameters
+      goes_on b t =
+          let m = drop (i + 1) l in
+          let z : past m ≡ drop p.at l = drop-drop (length (before space m)) (i + 1) l ∙ ap (λ (j : ℕ). drop j l) (sym (read-ends (i + 1) (before space m) p e)) in
+          rw (← z, spaced-past m)
 
-  abbrev onwards : Mail → Bool → ℕ → Mail
-  onwards b t e = read_words b t (e + 1) (parameters (past (drop (i + 1) l)))
+      -- AUTH, the first and a second one
+      pub first-auth : (m : Mail) → p.answer ≡ Parameter.Auth m → a ≡ Mail.Absent → read_parameters a s i (drop i l) ≡ read_parameters m s p.at (drop p.at l)
+      first-auth m f z = turn ∙ rw (e, f, z) (sym (goes_on m s))
 
-  turn : read_parameters a s i (drop i l) ≡ onward a s p onwards
-  unfolding read_words
-  turn = starts ∙ ap (read_words a s (i + 1)) (words_are (drop (i + 1) l)) ∙ rw d
+      pub second-auth : (p.answer ≡ Parameter.Submitter → ⊥) → (p.answer ≡ Parameter.Other → ⊥) → (a ≡ Mail.Absent → ⊥) → read_parameters a s i (drop i l) ≡ None
+      second-auth f g z = turn ∙ rw e (go p.answer a f g z)
+        where
+          go : (q : Parameter) (a : Mail) → (q ≡ Parameter.Submitter → ⊥) → (q ≡ Parameter.Other → ⊥) → (a ≡ Mail.Absent → ⊥) → onward a s q (λ b t. read_words b t (p.at + 1) (parameters (past (drop (i + 1) l)))) ≡ None
+          go Parameter.Submitter a f g z = absurd (f refl)
+          go Parameter.Other a f g z = absurd (g refl)
+          go (Parameter.Auth m) Mail.Absent f g z = absurd (z refl)
+          go (Parameter.Auth m) Mail.Null f g z = refl
+          go (Parameter.Auth m) (Mail.Address from to n) f g z = refl
 
-  pub refuses : refused a s p ≡ true → Mail.Malformed ≡ read_parameters a s i (drop i l)
-  refuses c = sym (turn ∙ refused-is a s p onwards c)
+      -- the same of SUBMITTER
+      module _ (f : p.answer ≡ Parameter.Submitter) where
+        pub first_submitter : s ≡ false → read_parameters a s i (drop i l) ≡ read_parameters a true p.at (drop p.at l)
+        first_submitter z = turn ∙ rw (e, f, z) (sym (goes_on a true))
 
-  pub malformed : p ≡ Parameter.Malformed → Mail.Malformed ≡ read_parameters a s i (drop i l)
-  malformed c = sym (turn ∙ rw c)
+        pub second_submitter : s ≡ true → read_parameters a s i (drop i l) ≡ None
+        second_submitter z = turn ∙ rw (e, f, z)
 
-  -- where the reading goes on
-  ends_at : (x : Parameter) → p ≡ x → Ends (i + 1 + length (before space (drop (i + 1) l))) x
-  ends_at x c = rw (sym d ∙ c) at (read-ends (i + 1) (before space (drop (i + 1) l)))
+      pub other-word : p.answer ≡ Parameter.Other → read_parameters a s i (drop i l) ≡ read_parameters a s p.at (drop p.at l)
+      other-word f = turn ∙ rw (e, f) (sym (goes_on a s))
 
-  module _ (e : ℕ) (z : i + 1 + length (before space (drop (i + 1) l)) ≡ e) where
-    goes_on : (b : Mail) (t : Bool) → read_parameters b t e (drop e l) ≡ onwards b t e
-    unfolding read_parameters
-    goes_on b t =
-        let y : past (drop (i + 1) l) ≡ drop e l = drop-drop (length (before space (drop (i + 1) l))) (i + 1) l ∙ ap (λ (j : ℕ). drop j l) z in
-        let x : spaced (drop e l) ≡ true = rw y at (spaced-past (drop (i + 1) l)) in
-        rw (y, x)
-
-  module _ (r : refused a s p ≡ false) (e : ℕ) where
-    pub other-next : p ≡ Parameter.Other e → (i < e) × (read_parameters a s e (drop e l) ≡ read_parameters a s i (drop i l))
-    other-next c =
-        let z = ends_at (Parameter.Other e) c in
-        (omega arith, goes_on e z a s ∙ sym (turn ∙ rw c))
-
-    pub null-next : p ≡ Parameter.Null e → (i < e) × (read_parameters Mail.Null s e (drop e l) ≡ read_parameters a s i (drop i l))
-    null-next c =
-        let z = ends_at (Parameter.Null e) c in
-        let y : is_absent a ≡ true = not-false (is_absent a) (rw c at r) in
-        (omega arith, goes_on e z Mail.Null s ∙ sym (turn ∙ rw (c, y)))
-
-    pub address-next : (from n : ℕ) → p ≡ Parameter.Address from e n → (i < e) × (read_parameters (Mail.Address from e n) s e (drop e l) ≡ read_parameters a s i (drop i l))
-    address-next from n c =
-        let z = ends_at (Parameter.Address from e n) c in
-        let y : is_absent a ≡ true = not-false (is_absent a) (rw c at r) in
-        (omega arith, goes_on e z (Mail.Address from e n) s ∙ sym (turn ∙ rw (c, y)))
-
-    pub submitter_next : p ≡ Parameter.Submitter e → (i < e) × (read_parameters a true e (drop e l) ≡ read_parameters a s i (drop i l))
-    submitter_next c =
-        let z = ends_at (Parameter.Submitter e) c in
-        let y : s ≡ false = rw c at r in
-        (omega arith, goes_on e z a true ∙ sym (turn ∙ rw (c, y)))
+pub ruleset turns = (rest_end, no-space, no-word, moves, first-auth, second-auth, first_submitter, second_submitter, other-word)

@@ -1,17 +1,18 @@
 -- The values of AUTH and SUBMITTER, read in a line up to a space or its end. Assumes nothing.
 use mathlib.Core.Path.{◌≡◌, refl, sym, ◌∙◌, ap, subst}
-use mathlib.Core.Bool.{Bool, true, false, cond, ◌&&◌, ◌||◌, and-false, false≢true}
+use Rattle.std.proofs.lemmas.Bool.Decides.{nat_tests}
+use mathlib.Core.Bool.{Bool, true, false, not, ◌&&◌, ◌||◌, and-false, false≢true}
 use mathlib.Core.List.{List, [], ◌∷◌}
 use Prim.Native.Nat.{ℕ, zero, suc, ◌+◌, ◌-◌, ◌<◌, ◌≤◌}
 use native.Mathlib.Nat.{add-zero}
 use native.Mathlib.Omega.{arith}
-use borrow.Author.Tests.{ne_eqb, eqb-true, le-leb, lt-leb}
+use borrow.Author.Tests.{eqb-true}
 use lib.Dec.{eqb}
 use lib.ListN.{length, take, drop, length-take, length-drop}
 use lib.Seq.{drop-drop}
 use Rattle.octets.specs.Ascii.{ascii}
 use Rattle.octets.specs.Lists.{every, same, before}
-use Rattle.octets.proofs.Cases.{below, both, split}
+use Rattle.octets.proofs.Cases.{both, split}
 use Rattle.octets.proofs.Lists.{cut}
 use Rattle.octets.proofs.Words.{same_true, before-take}
 use Rattle.xtext.specs.Xtext
@@ -20,13 +21,12 @@ use Rattle.xtext.proofs.Characters.{digit-xchar}
 use Rattle.xtext.proofs.Grammar as Grammar
 use Rattle.xtext.proofs.Walk.{Told, told}
 use Rattle.mail.specs.Address.{address}
-use Rattle.mail.specs.Parameter.{equals, value_char, value, null, auth_value, submitter_value}
+use Rattle.mail.specs.Parameter.{value_char, value, null, auth_value, submitter_value}
 use Rattle.mail.specs.Mail.{space, spaced}
-use Rattle.mail.specs.Private.{step, run, at_end, judged, saying}
+use Rattle.mail.specs.Private.{step, run, at_end}
 use Rattle.mail.specs.declared.address.State.{State}
-use Rattle.mail.specs.declared.address.Judged.{Judged}
-use Rattle.mail.specs.declared.parameter.Parameter.{Parameter}
-use Rattle.mail.proofs.States.{going}
+use Rattle.std.specs.Prelude.{None}
+use Rattle.mail.proofs.States.{going, going_start}
 
 -- what stands before an octet, from an element of it on
 drop-before : (x k : ℕ) (l : List ℕ) → k ≤ length (before x l) → drop k (before x l) ≡ before x (drop k l)
@@ -62,112 +62,66 @@ octet-here i [] x n e = let z : ◌≡◌ {A = ℕ} 0 1 = cc in absurd (omega ar
 octet-here i (y ∷ m) x n e =
     split (eqb y space) (λ f. let g = rw (eqb-true y space f) at e in let z : ◌≡◌ {A = ℕ} 0 1 = cc in absurd (omega arith)) (λ f. f)
 
--- a turn: the character c at index i of a line, in a value that ends at index e
-module _ (l : List ℕ) (i n e : ℕ) (s : State) (j : Judged) (c : Character) (q : c ≡ Xtext.character_at i (drop i l)) (a : i + length (before space (drop i l)) ≡ e) (inv : going s n e (before space (drop i l)) ≡ j) where
-  word_at : drop i (take e l) ≡ before space (drop i l)
+-- the rest of a value, which stands from index i of a line on and ends at an index
+module _ (l : List ℕ) (i to : ℕ) (a : i + length (before space (drop i l)) ≡ to) where
+  word_at : drop i (take to l) ≡ before space (drop i l)
   word_at =
-      let z : length (before space (drop i l)) ≡ e - i = omega arith in
-      sym (before-take space (drop i l) ∙ ap (λ (n : ℕ). take n (drop i l)) z ∙ cut i e l)
+      let z : length (before space (drop i l)) ≡ to - i = omega arith in
+      sym (before-take space (drop i l) ∙ ap (λ (n : ℕ). take n (drop i l)) z ∙ cut i to l)
 
-  here : (d : Character) → c ≡ d → spaced (drop i l) ≡ false → Told (take e l) i d
-  here d f g = subst (Told (take e l) i) (ap (Xtext.character_at i) word_at ∙ character-before i (drop i l) g ∙ sym q ∙ f) (told (take e l) i)
+  here : (d : Character) → d ≡ Xtext.character_at i (drop i l) → spaced (drop i l) ≡ false → Told (take to l) i d
+  here d q g = subst (Told (take to l) i) (ap (Xtext.character_at i) word_at ∙ character-before i (drop i l) g ∙ sym q) (told (take to l) i)
 
-  pub ended : c ≡ Character.End → before space (drop i l) ≡ []
-  unfolding before
-  ended f = let h : drop i l ≡ [] = subst (Told l i) (sym q ∙ f) (told l i) in rw h
+  -- what is said of the value where nothing is left, and where no character stands there
+  module _ (s : State) (from n : ℕ) where
+    pub finished : spaced (drop i l) ≡ true → going s from to n (before space (drop i l)) ≡ at_end s from i n
+    unfolding Xtext.valid Xtext.octets run
+    finished e =
+        let f = none_before (drop i l) e in
+        let z : to ≡ i = omega (arith, ap length f) in
+        rw (f, z, add-zero)
 
-  pub finished : before space (drop i l) ≡ [] → {r : Judged} → r ≡ at_end s n i → r ≡ j
-  unfolding Xtext.valid Xtext.octets run
-  finished f g =
-      let z : i ≡ e = omega (arith, ap length f) in
-      g ∙ ap (at_end s n) z ∙ (rw (f, add-zero) at inv)
+    pub broken : (c : Character) → c ≡ Xtext.character_at i (drop i l) → ((x m : ℕ) → c ≡ Character.Octet x m → ⊥) → spaced (drop i l) ≡ false
+        → going s from to n (before space (drop i l)) ≡ None
+    broken Character.End q h g = absurd (false≢true (sym g ∙ ap spaced (subst (Told l i) (sym q) (told l i))))
+    broken Character.Malformed q h g = rw (← word_at, here Character.Malformed q g)
+    broken (Character.Octet x m) q h g = absurd (h x m refl)
 
-  pub broken : c ≡ Character.Malformed → spaced (drop i l) ≡ false → Judged.Malformed ≡ j
-  broken f g = rw (← word_at, here Character.Malformed f g) at inv
-
-  module _ (x m : ℕ) (f : c ≡ Character.Octet x m) where
-    octet : Told (take e l) i (Character.Octet x m)
-    octet = here (Character.Octet x m) f (octet-here i (drop i l) x m (sym q ∙ f))
+  -- after an octet
+  module _ (x m : ℕ) (q : Character.Octet x m ≡ Xtext.character_at i (drop i l)) where
+    octet : Told (take to l) i (Character.Octet x m)
+    octet = here (Character.Octet x m) q (octet-here i (drop i l) x m (sym q))
 
     pub moves : (i < m) × (m ≤ length l)
-    moves = (octet.0, omega (arith, octet.1, length-take e l))
+    moves = (octet.0, omega (arith, octet.1, length-take to l))
 
     from_next : drop (m - i) (before space (drop i l)) ≡ before space (drop m l)
     from_next =
         let z : i + (m - i) ≡ m = omega (arith, octet.0) in
-        drop-before space (m - i) (drop i l) (omega (arith, octet.0, octet.1, length-take e l))
+        drop-before space (m - i) (drop i l) (omega (arith, octet.0, octet.1, length-take to l))
         ∙ ap (before space) (drop-drop (m - i) i l ∙ ap (λ (k : ℕ). drop k l) z)
 
-    next-at : drop m (take e l) ≡ before space (drop m l)
+    next-at : drop m (take to l) ≡ before space (drop m l)
     next-at =
         let z : i + (m - i) ≡ m = omega (arith, octet.0) in
-        ap (λ (k : ℕ). drop k (take e l)) (sym z) ∙ sym (drop-drop (m - i) i (take e l)) ∙ ap (drop (m - i)) word_at ∙ from_next
+        ap (λ (k : ℕ). drop k (take to l)) (sym z) ∙ sym (drop-drop (m - i) i (take to l)) ∙ ap (drop (m - i)) word_at ∙ from_next
 
-    pub same_end : m + length (before space (drop m l)) ≡ e
-    same_end = omega (arith, octet.0, octet.1, length-take e l, ap length from_next, length-drop (m - i) (before space (drop i l)))
+    pub same_end : m + length (before space (drop m l)) ≡ to
+    same_end = omega (arith, octet.0, octet.1, length-take to l, ap length from_next, length-drop (m - i) (before space (drop i l)))
 
-    pub goes_on : (s' : State) → s' ≡ step s x → going s' (n + 1) e (before space (drop m l)) ≡ j
+    pub goes_on : (s : State) (from n : ℕ) → going (step s x) from to (n + 1) (before space (drop m l)) ≡ going s from to n (before space (drop i l))
     unfolding run
-    goes_on s' g =
+    goes_on s from n =
         let v : Xtext.valid (before space (drop i l)) ≡ Xtext.valid (before space (drop m l)) = rw (word_at, next-at) at octet.2 in
         let o : Xtext.octets (before space (drop i l)) ≡ x ∷ Xtext.octets (before space (drop m l)) = rw (word_at, next-at) at octet.3 in
         let z : n + suc (length (Xtext.octets (before space (drop m l)))) ≡ n + 1 + length (Xtext.octets (before space (drop m l))) = omega arith in
-        rw g (rw (v, o, z) at inv)
+        rw (v, o, z)
 
--- what AUTH says by a judgement of its value, and what SUBMITTER says
-abbrev pub says : ℕ → Judged → Parameter
-says from Judged.Malformed = Parameter.Malformed
-says from (Judged.Null e) = Parameter.Null e
-says from (Judged.Address e n) = Parameter.Address from e n
-
-abbrev pub submits : Judged → Parameter
-submits Judged.Malformed = Parameter.Malformed
-submits (Judged.Null e) = Parameter.Malformed
-submits (Judged.Address e n) = Parameter.Submitter e
-
-null-none : (v : List ℕ) → null v ≡ true → address (Xtext.octets v) ≡ false
-unfolding address
-null-none v e = rw (same_true (Xtext.octets v) (ascii "<>") e)
-
-module _ (e : ℕ) (v : List ℕ) where
-  pub says_is : (from : ℕ) → says from (judged e v) ≡ cond (auth_value v) (saying from e v) Parameter.Malformed
-  unfolding judged auth_value saying
-  says_is from = go (Xtext.valid v) (null v) (address (Xtext.octets v))
-    where
-      go : (a b c : Bool) → says from (cond a (cond b (Judged.Null e) (cond c (Judged.Address e (length (Xtext.octets v))) Judged.Malformed)) Judged.Malformed)
-          ≡ cond (a && (b || c)) (cond b (Parameter.Null e) (Parameter.Address from e (length (Xtext.octets v)))) Parameter.Malformed
-      go false b c = refl
-      go true true c = refl
-      go true false true = refl
-      go true false false = refl
-
-  pub submits_is : submits (judged e v) ≡ cond (submitter_value v) (Parameter.Submitter e) Parameter.Malformed
-  unfolding judged submitter_value
-  submits_is = go (Xtext.valid v) (null v) (address (Xtext.octets v)) (null-none v)
-    where
-      go : (a b c : Bool) → (b ≡ true → c ≡ false)
-          → submits (cond a (cond b (Judged.Null e) (cond c (Judged.Address e (length (Xtext.octets v))) Judged.Malformed)) Judged.Malformed)
-          ≡ cond (a && c) (Parameter.Submitter e) Parameter.Malformed
-      go false b c h = refl
-      go true true c h = rw (h refl)
-      go true false true h = refl
-      go true false false h = refl
+pub ruleset turns = (going_start, finished, broken, moves, same_end, goes_on)
 
 -- xtext has no other characters than a value may have
 xchar-value : (x : ℕ) → Xtext.xchar x ≡ true → value_char x ≡ true
-xchar-value x h = rw (le-leb 0x21 x least, le-leb x 0x7E most, ne_eqb x equals (λ e. false≢true (rw e at h)))
-  where
-    low : x < 0x21 → x < 0x2C → x < 0x3E → ⊥
-    low a b c = false≢true (simp (lt-leb 0x21 x a, lt-leb 0x2C x b, lt-leb 0x3E x c) at h)
-
-    high : 0x2A < x → 0x3C < x → 0x7E < x → ⊥
-    high a b c = false≢true (simp (lt-leb x 0x2A a, lt-leb x 0x3C b, lt-leb x 0x7E c, and-false) at h)
-
-    least : 0x21 ≤ x
-    least = below x 0x21 (λ a. absurd (low (omega arith) (omega arith) (omega arith))) (λ a. a)
-
-    most : x ≤ 0x7E
-    most = below 0x7E x (λ a. absurd (high (omega arith) (omega arith) (omega arith))) (λ a. a)
+xchar-value x h = grind (arith, nat_tests)
 
 xtext-value : {v : List ℕ} → Grammar.Xtext v → every value_char v ≡ true
 unfolding every
@@ -175,25 +129,22 @@ xtext-value Grammar.none = refl
 xtext-value (Grammar.self {x} {l} h r) = rw (xchar-value x h) (xtext-value r)
 xtext-value (Grammar.escape {y} {z} {l} p q r) = rw (xchar-value y (digit-xchar y p), xchar-value z (digit-xchar z q)) (xtext-value r)
 
--- "<>" and an address are not empty, so what AUTH or SUBMITTER may have is a value
+-- "<>" and an address are not empty, so what AUTH may have is a value
 pub auth-none : auth_value [] ≡ false
 unfolding auth_value Xtext.valid Xtext.octets address same
 auth-none = refl
-
-pub submitter_none : submitter_value [] ≡ false
-unfolding submitter_value Xtext.valid Xtext.octets address
-submitter_none = refl
 
 pub auth-value : (v : List ℕ) → auth_value v ≡ true → value v ≡ true
 unfolding value auth_value
 auth-value [] e = absurd (false≢true (sym auth-none ∙ e))
 auth-value (x ∷ v) e = xtext-value (Grammar.grammar (x ∷ v) (both (Xtext.valid (x ∷ v)) _ e).0)
 
-pub submitter-value : (v : List ℕ) → submitter_value v ≡ true → value v ≡ true
-unfolding value submitter_value
-submitter-value [] e = absurd (false≢true (sym submitter_none ∙ e))
-submitter-value (x ∷ v) e = xtext-value (Grammar.grammar (x ∷ v) (both (Xtext.valid (x ∷ v)) _ e).0)
-
-pub some-octet : (v : List ℕ) → auth_value v ≡ true → 0 < length v
-some-octet [] e = absurd (false≢true (sym auth-none ∙ e))
-some-octet (x ∷ v) e = omega arith
+-- "<>" is no address, so SUBMITTER may have what AUTH may have but "<>"
+pub submitter-is : (v : List ℕ) → submitter_value v ≡ (auth_value v && not (null v))
+unfolding submitter_value auth_value address
+submitter-is v = go (Xtext.valid v) (null v) (address (Xtext.octets v)) (λ e. rw (same_true (Xtext.octets v) (ascii "<>") e))
+  where
+    go : (a b c : Bool) → (b ≡ true → c ≡ false) → (a && c) ≡ (a && (b || c) && not b)
+    go false b c h = refl
+    go true true c h = h refl
+    go true false c h = grind arith

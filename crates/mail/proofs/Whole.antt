@@ -16,10 +16,9 @@ use Rattle.octets.proofs.Words.{same_true, after-drop, holds-before}
 use Rattle.xtext.specs.Xtext
 use Rattle.mail.specs.Parameter.{equals, parameter, named, good, null, AUTH, SUBMITTER, auth_value, submitter_value}
 use Rattle.mail.specs.Mail.{opens, path_ends, greater, rest, spaced, parameters, count, all_good, said, identity, well_formed, mail_at}
-use Rattle.mail.specs.Private.{saying, found, read, is_absent, onward, read_words, read_parameters}
+use Rattle.mail.specs.Private.{found, read, is_absent, read_words, read_parameters}
+use Rattle.std.specs.Prelude.{Option, Some, None}
 use Rattle.mail.specs.declared.Mail.{Mail}
-use Rattle.mail.specs.declared.parameter.Parameter.{Parameter}
-use Rattle.mail.proofs.Values.{some-octet}
 use Rattle.mail.proofs.Parameters.{not-both}
 
 -- how many parameters of a keyword may come, and what AUTH said before
@@ -28,10 +27,8 @@ room true = 1
 room false = 0
 
 abbrev kept : Mail → Mail → Mail
-kept Mail.Malformed m = Mail.Malformed
 kept Mail.Absent m = m
-kept Mail.Null m = Mail.Null
-kept (Mail.Address from to n) m = Mail.Address from to n
+kept a m = a
 
 abbrev may : Mail → Bool → List (List ℕ) → Bool
 may a s ws = every good ws && leb (count AUTH ws) (room (is_absent a)) && leb (count SUBMITTER ws) (room (not s))
@@ -62,26 +59,7 @@ module _ (w : List ℕ) (a : named AUTH w ≡ true) where
   pub value-length : length (after equals w) ≡ length w - suc (length AUTH)
   value-length = ap length value-drop ∙ length-drop (suc (length AUTH)) w
 
-  value-end : (i : ℕ) → auth_value (after equals w) ≡ true → i + length AUTH + 1 + length (after equals w) ≡ i + length w
-  value-end i e = omega (arith, value-length, some-octet (after equals w) e)
-
 -- what AUTH says, after which it may not come again
-said-onward : (s : Bool) (from e : ℕ) (v : List ℕ) (k : Mail → Bool → ℕ → Mail) → from + length v ≡ e → onward Mail.Absent s (saying from e v) k ≡ k (said from v) s e
-unfolding saying said
-said-onward s from e v k z = go (null v)
-  where
-    go : (b : Bool) → onward Mail.Absent s (cond b (Parameter.Null e) (Parameter.Address from e (length (Xtext.octets v)))) k ≡ k (cond b Mail.Null (Mail.Address from (from + length v) (length (Xtext.octets v)))) s e
-    go true = refl
-    go false = rw z
-
-second-onward : (a : Mail) (s : Bool) (from e : ℕ) (v : List ℕ) (k : Mail → Bool → ℕ → Mail) → is_absent a ≡ false → onward a s (saying from e v) k ≡ Mail.Malformed
-unfolding saying
-second-onward a s from e v k f = go (null v)
-  where
-    go : (b : Bool) → onward a s (cond b (Parameter.Null e) (Parameter.Address from e (length (Xtext.octets v)))) k ≡ Mail.Malformed
-    go true = rw f
-    go false = rw f
-
 said-kept : (from : ℕ) (v : List ℕ) (m : Mail) → (is_absent (said from v) ≡ false) × (kept (said from v) m ≡ said from v)
 unfolding said
 said-kept from v m = go (null v)
@@ -91,33 +69,28 @@ said-kept from v m = go (null v)
     go false = (refl, refl)
 
 absent-is : (m : Mail) → is_absent m ≡ true → m ≡ Mail.Absent
-absent-is Mail.Malformed e = absurd (false≢true e)
 absent-is Mail.Absent e = refl
 absent-is Mail.Null e = absurd (false≢true e)
 absent-is (Mail.Address from to n) e = absurd (false≢true e)
 
 kept-absent : (m : Mail) → kept m Mail.Absent ≡ m
-kept-absent Mail.Malformed = refl
 kept-absent Mail.Absent = refl
 kept-absent Mail.Null = refl
 kept-absent (Mail.Address from to n) = refl
 
 -- what the definitions say of parameters, after what was met
-abbrev outcome : Mail → Bool → ℕ → List (List ℕ) → Mail
-outcome a s i ws = cond (may a s ws) (kept a (identity i ws)) Mail.Malformed
+abbrev outcome : Mail → Bool → ℕ → List (List ℕ) → Option Mail
+outcome a s i ws = cond (may a s ws) (Some (kept a (identity i ws))) None
 
 module _ (a : Mail) (s : Bool) (i : ℕ) (w : List ℕ) (ws : List (List ℕ)) (ih : (b : Mail) (t : Bool) → read_words b t (i + length w + 1) ws ≡ outcome b t (i + length w + 1) ws) (g : good w ≡ true) where
   auth-word : named AUTH w ≡ true → read_words a s i (w ∷ ws) ≡ outcome a s i (w ∷ ws)
-  unfolding read_words read found every count identity
+  unfolding read_words read found every count identity named
   auth-word n =
-      let v = after equals w in
-      let from = i + length AUTH + 1 in
-      let e = i + length w in
-      let k = said-kept from v (identity (i + length w + 1) ws) in
-      let onwards : Mail → Bool → ℕ → Mail = λ b t e. read_words b t (e + 1) ws in
+      let m = said (i + length AUTH + 1) (after equals w) in
+      let k = said-kept (i + length AUTH + 1) (after equals w) (identity (i + length w + 1) ws) in
       split (is_absent a)
-      (λ c. rw (absent-is a c, g, n, not-both w n, said-onward s from e v onwards (value-end w n i (good-auth w g n)), ih (said from v) s, k.0, k.1, one-fits (count AUTH ws)))
-      (λ c. rw (g, n, not-both w n, second-onward a s from e v onwards c, c, none-fits (count AUTH ws), and-false))
+      (λ c. rw (absent-is a c, g, n, not-both (capitals (before equals w)) n, ih m s, k.0, k.1, one-fits (count AUTH ws)))
+      (λ c. rw (g, n, not-both (capitals (before equals w)) n, c, none-fits (count AUTH ws), and-false))
 
   submitter_word : named AUTH w ≡ false → named SUBMITTER w ≡ true → read_words a s i (w ∷ ws) ≡ outcome a s i (w ∷ ws)
   unfolding read_words read found every count identity
@@ -134,11 +107,11 @@ read_all : (ws : List (List ℕ)) (a : Mail) (s : Bool) (i : ℕ) → read_words
 unfolding read_words read every count identity
 read_all [] a s i = go (is_absent a) (not s)
   where
-    go : (b c : Bool) → a ≡ cond (leb 0 (room b) && leb 0 (room c)) (kept a Mail.Absent) Mail.Malformed
-    go true true = sym (kept-absent a)
-    go true false = sym (kept-absent a)
-    go false true = sym (kept-absent a)
-    go false false = sym (kept-absent a)
+    go : (b c : Bool) → Some a ≡ cond (leb 0 (room b) && leb 0 (room c)) (Some (kept a Mail.Absent)) None
+    go true true = ap Some (sym (kept-absent a))
+    go true false = ap Some (sym (kept-absent a))
+    go false true = ap Some (sym (kept-absent a))
+    go false false = ap Some (sym (kept-absent a))
 read_all (w ∷ ws) a s i =
     let ih : (b : Mail) (t : Bool) → read_words b t (i + length w + 1) ws ≡ outcome b t (i + length w + 1) ws = λ b t. read_all ws b t (i + length w + 1) in
     split (good w)
@@ -146,11 +119,12 @@ read_all (w ∷ ws) a s i =
     (λ g. rw g)
 
 -- from index i on, with nothing met
-rest-is : (i : ℕ) (r : List ℕ) → read_parameters Mail.Absent false i r ≡ cond (spaced r && all_good (parameters r)) (identity (i + 1) (parameters r)) Mail.Malformed
+rest-is : (i : ℕ) (r : List ℕ) → read_parameters Mail.Absent false i r ≡ cond (spaced r && all_good (parameters r)) (Some (identity (i + 1) (parameters r))) None
 unfolding read_parameters all_good
 rest-is i r = go (spaced r)
   where
-    go : (b : Bool) → cond b (read_words Mail.Absent false (i + 1) (parameters r)) Mail.Malformed ≡ cond (b && (every good (parameters r) && leb (count AUTH (parameters r)) 1 && leb (count SUBMITTER (parameters r)) 1)) (identity (i + 1) (parameters r)) Mail.Malformed
+    go : (b : Bool) → cond b (read_words Mail.Absent false (i + 1) (parameters r)) None
+        ≡ cond (b && (every good (parameters r) && leb (count AUTH (parameters r)) 1 && leb (count SUBMITTER (parameters r)) 1)) (Some (identity (i + 1) (parameters r))) None
     go true = read_all (parameters r) Mail.Absent false (i + 1)
     go false = refl
 
@@ -161,34 +135,34 @@ rest-drop t = after-drop greater (drop 11 t) ∙ drop-drop (suc (length (before 
 
 -- a line that begins at an index
 module _ (l : List ℕ) (at : ℕ) where
-  pub begins-past : length l < at → Mail.Malformed ≡ mail_at l at
+  pub begins-past : length l < at → mail_at l at ≡ None
   unfolding mail_at well_formed opens same
   begins-past h = rw (drop_of_length-le l {i = at} (omega arith))
 
-  pub opens-is : (t : List ℕ) (b : Bool) → t ≡ slice at (at + 11) l → b ≡ same (capitals t) (ascii "MAIL FROM:<") → b ≡ opens (drop at l)
+  opens-is : opens (drop at l) ≡ same (capitals (slice at (at + 11) l)) (ascii "MAIL FROM:<")
   unfolding opens
-  opens-is t b e f = let y : at + 11 - at ≡ 11 = omega arith in f ∙ rw (e, ← (cut at (at + 11) l), y)
+  opens-is = let y : at + 11 - at ≡ 11 = omega arith in rw (← cut at (at + 11) l, y)
 
-  pub no-opening : opens (drop at l) ≡ false → Mail.Malformed ≡ mail_at l at
+  pub no-opening : same (capitals (slice at (at + 11) l)) (ascii "MAIL FROM:<") ≡ false → mail_at l at ≡ None
   unfolding mail_at well_formed
-  no-opening e = rw e
+  no-opening e = rw (opens-is, e)
 
-  module _ (e : ℕ) (q : e ≡ at + 11 + length (before greater (drop (at + 11) l))) where
-    -- the path's end, as an index of the line
+  -- the path's end, as an index of the line
+  module _ (o : same (capitals (slice at (at + 11) l)) (ascii "MAIL FROM:<") ≡ true) (e : ℕ) (q : e ≡ at + 11 + length (before greater (drop (at + 11) l))) where
     after-path : drop 11 (drop at l) ≡ drop (at + 11) l
     after-path = drop-drop 11 at l
 
-    pub no-path : opens (drop at l) ≡ true → length l ≤ e → Mail.Malformed ≡ mail_at l at
+    pub no-path : length l ≤ e → mail_at l at ≡ None
     unfolding mail_at well_formed path_ends
-    no-path o h =
+    no-path h =
         let z : holds greater (drop (at + 11) l) ≡ false = holds-before greater (drop (at + 11) l) ∙ le-ltb (length (before greater (drop (at + 11) l))) (length (drop (at + 11) l)) (omega (arith, length-drop (at + 11) l)) in
-        rw (o, after-path, z)
+        rw (opens-is, o, after-path, z)
 
-    pub whole : opens (drop at l) ≡ true → e < length l → read_parameters Mail.Absent false (e + 1) (drop (e + 1) l) ≡ mail_at l at
+    pub whole : e < length l → mail_at l at ≡ read_parameters Mail.Absent false (e + 1) (drop (e + 1) l)
     unfolding mail_at well_formed path_ends
-    whole o h =
+    whole h =
         let z : holds greater (drop (at + 11) l) ≡ true = holds-before greater (drop (at + 11) l) ∙ lt-ltb (length (before greater (drop (at + 11) l))) (length (drop (at + 11) l)) (omega (arith, length-drop (at + 11) l)) in
         let y : at + (11 + suc (length (before greater (drop (at + 11) l)))) ≡ e + 1 = omega arith in
         let r : rest (drop at l) ≡ drop (e + 1) l = rest-drop (drop at l) ∙ ap (λ (t : List ℕ). drop (11 + suc (length (before greater t))) (drop at l)) after-path ∙ drop-drop (11 + suc (length (before greater (drop (at + 11) l)))) at l ∙ ap (λ (n : ℕ). drop n l) y in
         let x : length l - length (drop (e + 1) l) ≡ e + 1 = omega (arith, length-drop (e + 1) l) in
-        rw (o, after-path, z, r, x) (rest-is (e + 1) (drop (e + 1) l))
+        rw (opens-is, o, after-path, z, r, x) (sym (rest-is (e + 1) (drop (e + 1) l)))

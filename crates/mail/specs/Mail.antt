@@ -1,12 +1,12 @@
 -- The MAIL line (document 01, "Base64, xtext and MAIL"; RFC 4954 section 5; RFC 4405 section 3).
-use Rattle.std.specs.Prelude.{Bool, cond, ◌&&◌, ◌||◌, List, [], ◌∷◌, ℕ, suc, ◌+◌, ◌-◌, leb, eqb, length, get_or, take, drop}
+use Rattle.std.specs.Prelude.{Bool, cond, ◌&&◌, ◌||◌, List, [], ◌∷◌, ℕ, suc, ◌+◌, ◌-◌, leb, eqb, length, get_or, take, drop, Option, Some, None}
 use Rattle.octets.specs.Ascii.{ascii, capitals}
 pub use Rattle.octets.specs.Ascii.{space}
 use Rattle.octets.specs.Lists.{is_empty, holds, every, same, after}
 use Rattle.xtext.specs.Xtext
 use Rattle.mail.specs.Parameter.{equals, named, good, null, AUTH, SUBMITTER}
 use Rattle.mail.specs.declared.Mail.{Mail}
-use Rattle.mail.specs.declared.Mail.TheVariants.{Malformed, Absent, Null, Address}
+use Rattle.mail.specs.declared.Mail.TheVariants.{Absent, Null, Address}
 
 -- "`MAIL FROM:` (case ignored), "<""
 unfoldable pub opens : List ℕ → Bool
@@ -58,16 +58,16 @@ identity i (w ∷ ws) = cond (named AUTH w) (said (i + length AUTH + 1) (after e
 unfoldable pub well_formed : List ℕ → Bool
 well_formed l = opens l && path_ends l && spaced (rest l) && all_good (parameters (rest l))
 
--- what it says, where it begins at an index of a line and goes on to the line's end; and where it is the whole line
-unfoldable pub mail_at : List ℕ → ℕ → Mail
-mail_at l at = cond (well_formed (drop at l)) (identity (length l - length (rest (drop at l)) + 1) (parameters (rest (drop at l)))) Malformed
+-- what it says, where it begins at an index of a line and goes on to the line's end; and where it is the whole line. None: it is not of the form
+unfoldable pub mail_at : List ℕ → ℕ → Option Mail
+mail_at l at = cond (well_formed (drop at l)) (Some (identity (length l - length (rest (drop at l)) + 1) (parameters (rest (drop at l))))) None
 
-unfoldable pub mail : List ℕ → Mail
+unfoldable pub mail : List ℕ → Option Mail
 mail l = mail_at l 0
 
 -- the xtext of the address, which a line's reading points to: the part of the line from one index up to another
-abbrev pub address_text : Mail → List ℕ → List ℕ
-address_text Malformed l = []
-address_text Absent l = []
-address_text Null l = []
-address_text (Address from to n) l = drop from (take to l)
+abbrev pub address_text : Option Mail → List ℕ → List ℕ
+address_text None l = []
+address_text (Some Absent) l = []
+address_text (Some Null) l = []
+address_text (Some (Address from to n)) l = drop from (take to l)

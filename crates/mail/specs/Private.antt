@@ -1,14 +1,11 @@
 -- What only the promises of private functions cite: a line read from left to right, one octet and one parameter after the other.
-use Rattle.std.specs.Prelude.{Bool, true, false, cond, not, ◌&&◌, List, [], ◌∷◌, ℕ, suc, ◌+◌, eqb, length, get_or, drop}
+use Rattle.std.specs.Prelude.{Bool, true, false, cond, ◌&&◌, List, [], ◌∷◌, ℕ, ◌+◌, eqb, length, get_or, drop, Option, Some, None, option_map, option_and_then}
 use Rattle.octets.specs.Lists.{before, after}
-use Rattle.xtext.specs.Xtext
-use Rattle.mail.specs.Address.{address}
-use Rattle.mail.specs.Parameter.{equals, keyword_char, value_char, value, named, good, null, AUTH, SUBMITTER, auth_value, submitter_value}
-use Rattle.mail.specs.Mail.{space, spaced, parameters}
+use Rattle.octets.specs.declared.reader.Reading.{Reading}
+use Rattle.mail.specs.Parameter.{equals, value, named, good, AUTH, SUBMITTER, auth_value}
+use Rattle.mail.specs.Mail.{space, spaced, parameters, said}
 use Rattle.mail.specs.declared.Mail.{Mail}
 use Rattle.mail.specs.declared.address.State.{State}
-use Rattle.mail.specs.declared.address.Judged.{Judged}
-use Rattle.mail.specs.declared.parameter.Class.{Class}
 use Rattle.mail.specs.declared.parameter.Parameter.{Parameter}
 
 -- what the octets read so far are
@@ -27,84 +24,67 @@ unfoldable pub run : State → List ℕ → State
 run s [] = s
 run s (x ∷ l) = run (step s x) l
 
-abbrev pub at_end : State → ℕ → ℕ → Judged
-at_end State.Start n e = Judged.Malformed
-at_end State.Less n e = Judged.Malformed
-at_end State.Null n e = Judged.Null e
-at_end State.Inner n e = Judged.Malformed
-at_end State.At n e = Judged.Malformed
-at_end State.Address n e = Judged.Address e n
+-- something read, and the index after it
+abbrev pub ends_at : {A : Type 0} → A → ℕ → Reading A
+ends_at x to = record { answer = x; at = to }
 
--- what the value v stands for, which ends at index e
-unfoldable pub judged : ℕ → List ℕ → Judged
-judged e v =
-    cond (Xtext.valid v) (cond (null v) (Judged.Null e) (cond (address (Xtext.octets v)) (Judged.Address e (length (Xtext.octets v))) Judged.Malformed)) Judged.Malformed
+abbrev pub at_end : State → ℕ → ℕ → ℕ → Option (Reading Mail)
+at_end State.Null from to n = Some (ends_at Mail.Null to)
+at_end State.Address from to n = Some (ends_at (Mail.Address from to n) to)
+at_end _ from to n = None
 
--- how many elements at the front of a list pass a test
-unfoldable pub span : (ℕ → Bool) → List ℕ → ℕ
-span f [] = 0
-span f (x ∷ l) = cond (f x) (suc (span f l)) 0
+-- what the value v stands for, which begins at an index
+unfoldable pub judged : ℕ → List ℕ → Option (Reading Mail)
+judged from v = cond (auth_value v) (Some (ends_at (said from v) (from + length v))) None
 
--- the characters of a keyword, and those of a value
-abbrev pub char_of : Class → ℕ → Bool
-char_of Class.Keyword = keyword_char
-char_of Class.Value = value_char
-
--- what AUTH says by the value v, which stands from one index up to another
-unfoldable pub saying : ℕ → ℕ → List ℕ → Parameter
-saying from e v = cond (null v) (Parameter.Null e) (Parameter.Address from e (length (Xtext.octets v)))
-
--- what stands from index k on, after the keyword AUTH, SUBMITTER or any other: whether it begins with "=", and its value
+-- what stands from index k on, after a keyword: whether it begins with "=", and its value
 abbrev pub marked : List ℕ → Bool
 marked r = eqb (get_or r 0 0) equals
 
 abbrev pub value_of : List ℕ → List ℕ
 value_of r = before space (drop 1 r)
 
-unfoldable pub auth_from : ℕ → List ℕ → Parameter
-auth_from k r = cond (marked r && auth_value (value_of r)) (saying (k + 1) (k + 1 + length (value_of r)) (value_of r)) Parameter.Malformed
+-- after AUTH and SUBMITTER, and as each of the two; SUBMITTER may not be "<>"
+unfoldable pub identity_from : ℕ → List ℕ → Option (Reading Mail)
+identity_from k r = cond (marked r) (judged (k + 1) (value_of r)) None
 
-unfoldable pub submitter_from : ℕ → List ℕ → Parameter
-submitter_from k r = cond (marked r && submitter_value (value_of r)) (Parameter.Submitter (k + 1 + length (value_of r))) Parameter.Malformed
+unfoldable pub auth_from : ℕ → List ℕ → Option (Reading Parameter)
+auth_from k r = option_map (λ v. ends_at (Parameter.Auth v.answer) v.at) (identity_from k r)
 
-unfoldable pub other_from : ℕ → List ℕ → Parameter
-other_from k r = cond (spaced r) (Parameter.Other k) (cond (marked r && value (value_of r)) (Parameter.Other (k + 1 + length (value_of r))) Parameter.Malformed)
+abbrev pub submitted : Mail → ℕ → Option (Reading Parameter)
+submitted Mail.Null to = None
+submitted _ to = Some (ends_at Parameter.Submitter to)
+
+unfoldable pub submitter_from : ℕ → List ℕ → Option (Reading Parameter)
+submitter_from k r = option_and_then (λ v. submitted v.answer v.at) (identity_from k r)
+
+-- after any other keyword
+unfoldable pub other_from : ℕ → List ℕ → Option (Reading Parameter)
+other_from k r =
+    cond (spaced r) (Some (ends_at Parameter.Other k)) (cond (marked r && value (value_of r)) (Some (ends_at Parameter.Other (k + 1 + length (value_of r)))) None)
 
 -- the word w at index i, which is to be a parameter
 unfoldable pub found : ℕ → List ℕ → Parameter
-found i w =
-    cond (named AUTH w) (saying (i + length AUTH + 1) (i + length w) (after equals w))
-    (cond (named SUBMITTER w) (Parameter.Submitter (i + length w)) (Parameter.Other (i + length w)))
+found i w = cond (named AUTH w) (Parameter.Auth (said (i + length AUTH + 1) (after equals w))) (cond (named SUBMITTER w) Parameter.Submitter Parameter.Other)
 
-unfoldable pub read : ℕ → List ℕ → Parameter
-read i w = cond (good w) (found i w) Parameter.Malformed
+unfoldable pub read : ℕ → List ℕ → Option (Reading Parameter)
+read i w = cond (good w) (Some (ends_at (found i w) (i + length w))) None
 
 abbrev pub is_absent : Mail → Bool
-is_absent Mail.Malformed = false
 is_absent Mail.Absent = true
-is_absent Mail.Null = false
-is_absent (Mail.Address from to n) = false
+is_absent _ = false
 
--- after what AUTH said and whether SUBMITTER was met: whether a parameter may not come, and what is read on with it
-abbrev pub refused : Mail → Bool → Parameter → Bool
-refused a s Parameter.Malformed = true
-refused a s (Parameter.Other e) = false
-refused a s (Parameter.Null e) = not (is_absent a)
-refused a s (Parameter.Address from to n) = not (is_absent a)
-refused a s (Parameter.Submitter e) = s
-
-abbrev pub onward : Mail → Bool → Parameter → (Mail → Bool → ℕ → Mail) → Mail
-onward a s Parameter.Malformed k = Mail.Malformed
-onward a s (Parameter.Other e) k = k a s e
-onward a s (Parameter.Null e) k = cond (is_absent a) (k Mail.Null s e) Mail.Malformed
-onward a s (Parameter.Address from to n) k = cond (is_absent a) (k (Mail.Address from to n) s to) Mail.Malformed
-onward a s (Parameter.Submitter e) k = cond s Mail.Malformed (k a true e)
+-- after what AUTH said and whether SUBMITTER was met: what is read on with a parameter, and nothing where it may not come
+abbrev pub onward : Mail → Bool → Parameter → (Mail → Bool → Option Mail) → Option Mail
+onward a s (Parameter.Auth m) k = cond (is_absent a) (k m s) None
+onward a s Parameter.Submitter k = cond s None (k a true)
+onward a s Parameter.Other k = k a s
 
 -- all parameters, the first of which stands at index i
-unfoldable pub read_words : Mail → Bool → ℕ → List (List ℕ) → Mail
-read_words a s i [] = a
-read_words a s i (w ∷ ws) = onward a s (read i w) (λ b t e. read_words b t (e + 1) ws)
+unfoldable pub read_words : Mail → Bool → ℕ → List (List ℕ) → Option Mail
+read_words a s i [] = Some a
+read_words a s i (w ∷ ws) = option_and_then (λ p. onward a s p.answer (λ b t. read_words b t (p.at + 1) ws)) (read i w)
 
 -- what stands after the path, from index i on
-unfoldable pub read_parameters : Mail → Bool → ℕ → List ℕ → Mail
-read_parameters a s i r = cond (spaced r) (read_words a s (i + 1) (parameters r)) Mail.Malformed
+unfoldable pub read_parameters : Mail → Bool → ℕ → List ℕ → Option Mail
+read_parameters a s i r = cond (spaced r) (read_words a s (i + 1) (parameters r)) None

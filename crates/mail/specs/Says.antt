@@ -1,13 +1,13 @@
 -- What a MAIL line's AUTH says, with no index in it (document 01, "Base64, xtext and MAIL"; RFC 4954 section 5): AUTH's value is xtext, and decoded
 -- it is "<>" or an address.
-use Rattle.std.specs.Prelude.{cond, List, [], ◌∷◌, ℕ}
+use Rattle.std.specs.Prelude.{cond, List, [], ◌∷◌, ℕ, Option, Some, None}
 use Rattle.octets.specs.Lists.{after}
 use Rattle.xtext.specs.Xtext
 use Rattle.mail.specs.Parameter as Parameter
 use Rattle.mail.specs.Parameter.{equals, named, AUTH}
 use Rattle.mail.specs.Mail.{rest, parameters, well_formed, address_text}
 use Rattle.mail.specs.declared.Mail.{Mail}
-use Rattle.mail.specs.declared.Mail.TheVariants.{Malformed, Absent, Null, Address}
+use Rattle.mail.specs.declared.Mail.TheVariants.{Absent, Null, Address}
 
 -- the line is not of the form; it has no AUTH; AUTH is "<>"; AUTH is an address of these octets
 pub data Says : Type 0 where
@@ -29,8 +29,8 @@ abbrev pub line_says : List ℕ → Says
 line_says l = cond (well_formed l) (auth_says (parameters (rest l))) malformed
 
 -- what a reading points to in the line l that was read
-abbrev pub points_to : Mail → List ℕ → Says
-points_to Malformed l = malformed
-points_to Absent l = absent
-points_to Null l = null
-points_to (Address from to n) l = address (Xtext.octets (address_text (Address from to n) l))
+abbrev pub points_to : Option Mail → List ℕ → Says
+points_to None l = malformed
+points_to (Some Absent) l = absent
+points_to (Some Null) l = null
+points_to (Some (Address from to n)) l = address (Xtext.octets (address_text (Some (Address from to n)) l))

@@ -1,9 +1,9 @@
--- By order, by equality and by a test; tests of several parts. Assumes nothing.
+-- By order and by a test; tests of several parts. Assumes nothing.
 use mathlib.Core.Path.{◌≡◌, refl, sym}
 use mathlib.Core.Bool.{Bool, true, false, cond, ◌&&◌, ◌||◌, false≢true}
 use Prim.Native.Nat.{ℕ, ◌<◌, ◌≤◌}
-use borrow.Author.Tests.{ltb-true, ltb-false, eqb-true, eqb-false}
-use lib.Dec.{T, ltb, eqb}
+use borrow.Author.Tests.{ltb-true, ltb-false}
+use lib.Dec.{T, ltb}
 
 pub below : {X : Type 0} (m n : ℕ) → (m < n → X) → (n ≤ m → X) → X
 below {X} m n f g = go (ltb m n) refl
@@ -11,13 +11,6 @@ below {X} m n f g = go (ltb m n) refl
     go : (t : Bool) → ltb m n ≡ t → X
     go true e = f (ltb-true m n e)
     go false e = g (ltb-false m n e)
-
-pub same : {X : Type 0} (m n : ℕ) → (m ≡ n → X) → ((m ≡ n → ⊥) → X) → X
-same {X} m n f g = go (eqb m n) refl
-  where
-    go : (t : Bool) → eqb m n ≡ t → X
-    go true e = f (eqb-true m n e)
-    go false e = g (eqb-false m n e)
 
 pub both : (a b : Bool) → (a && b) ≡ true → (a ≡ true) × (b ≡ true)
 both true b e = (refl, e)

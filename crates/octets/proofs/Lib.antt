@@ -8,4 +8,4 @@ pub mod Words
 pub mod Padded
 pub mod Padding
 pub mod Every
-pub mod TextReaders
+pub mod Chains

@@ -1,54 +1,15 @@
--- What stands before an octet and after it, and whether two lists are the same: at an index, as a loop needs it, and as a whole. Assumes nothing.
+-- What stands before an octet and after it, whether two lists are the same, and capitals. Assumes nothing.
 use mathlib.Core.Path.{◌≡◌, refl, sym, ◌∙◌, ap}
-use mathlib.Core.Bool.{Bool, true, false, cond, ◌&&◌, ◌||◌, and_assoc, and-true, false≢true}
+use mathlib.Core.Bool.{Bool, true, false, cond, ◌||◌, false≢true}
 use mathlib.Core.List.{List, [], ◌∷◌, ◌++◌}
 use Prim.Native.Nat.{ℕ, zero, suc, ◌+◌, ◌-◌, ◌<◌, ◌≤◌}
-use native.Mathlib.Numerals.{add-one}
 use native.Mathlib.Omega.{arith}
-use borrow.Author.Tests.{eq-eqb, ne_eqb, eqb-true, le-leb, lt-leb, lt-ltb}
+use borrow.Author.Tests.{eq-eqb, eqb-true, le-leb, lt-leb, lt-ltb}
 use lib.Dec.{eqb, ltb, leb-suc-suc}
-use lib.ListN.{length, get_or, drop, take, drop_of_length-le, length-drop, get_or-map}
-use lib.Seq.{drop-cons}
+use lib.ListN.{length, get_or, drop, take, length-drop, get_or-map}
 use Rattle.octets.specs.Lists.{holds, same, before, after}
 use Rattle.octets.specs.Ascii.{capital, capitals}
 use Rattle.octets.proofs.Cases.{both}
-
--- a turn of the search for an octet
-module _ (x : ℕ) (l : List ℕ) (i : ℕ) where
-  pub before-step : i < length l → (get_or l i 0 ≡ x → ⊥) → i + 1 + length (before x (drop (i + 1) l)) ≡ i + length (before x (drop i l))
-  unfolding before
-  before-step h t = rw (add-one, drop-cons l i 0 h, ne_eqb _ _ t) (omega arith)
-
-  pub before-stop : i < length l → get_or l i 0 ≡ x → before x (drop i l) ≡ []
-  unfolding before
-  before-stop h t = rw (drop-cons l i 0 h, eq-eqb _ _ t)
-
-  pub before-end : length l ≤ i → before x (drop i l) ≡ []
-  unfolding before
-  before-end h = rw (drop_of_length-le l {i = i} h)
-
--- a turn of the comparison of two lists
-module _ (a b : List ℕ) (i : ℕ) where
-  pub same_step : i < length a → i < length b → get_or a i 0 ≡ get_or b i 0 → same (drop (i + 1) a) (drop (i + 1) b) ≡ same (drop i a) (drop i b)
-  unfolding same
-  same_step h k e = rw (add-one, drop-cons a i 0 h, drop-cons b i 0 k, eq-eqb _ _ e)
-
-  pub same_stop : i < length a → i < length b → (get_or a i 0 ≡ get_or b i 0 → ⊥) → same (drop i a) (drop i b) ≡ false
-  unfolding same
-  same_stop h k e = rw (drop-cons a i 0 h, drop-cons b i 0 k, ne_eqb _ _ e)
-
-  pub same_end : length a ≤ i → length b ≤ i → same (drop i a) (drop i b) ≡ true
-  unfolding same
-  same_end h k = rw (drop_of_length-le a {i = i} h, drop_of_length-le b {i = i} k)
-
--- the same without a branch: t, whether the octets before index i are the same
-module _ (t : Bool) (a b : List ℕ) (i : ℕ) where
-  pub same_turn : i < length a → i < length b → (t && eqb (get_or a i 0) (get_or b i 0) && same (drop (i + 1) a) (drop (i + 1) b)) ≡ (t && same (drop i a) (drop i b))
-  unfolding same
-  same_turn h k = rw (add-one, drop-cons a i 0 h, drop-cons b i 0 k) (and_assoc t _ _)
-
-  pub same-last : length a ≤ i → length b ≤ i → (t && same (drop i a) (drop i b)) ≡ t
-  same-last h k = rw (same_end a b i h k) (and-true t)
 
 -- lists are the same exactly when they are equal
 pub same_true : (a b : List ℕ) → same a b ≡ true → a ≡ b

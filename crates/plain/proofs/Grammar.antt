@@ -1,5 +1,5 @@
 -- Octets pass the test exactly where they are of the grammar. Assumes nothing.
-use mathlib.Core.Path.{◌≡◌, refl, sym, ◌∙◌}
+use mathlib.Core.Path.{◌≡◌, refl, sym, ◌∙◌, ap}
 use mathlib.Core.Bool.{Bool, true, false, cond, ◌&&◌, false≢true}
 use mathlib.Core.List.{List, [], ◌∷◌, ◌++◌}
 use Prim.Native.Nat.{ℕ, zero, suc, ◌-◌, ◌<◌, ◌≤◌}
@@ -7,11 +7,12 @@ use native.Mathlib.Omega.{arith}
 use borrow.Author.Tests.{le-leb, lt-leb, leb-true, ne_eqb}
 use lib.Dec.{leb, eqb}
 use lib.ListN.{length}
+use Rattle.std.specs.Prelude.{Option, Some, None}
 use Rattle.octets.specs.Lists.{holds}
 use Rattle.octets.proofs.Cases.{both}
 use Rattle.plain.specs.declared.utf8.Need.{Need}
 use Rattle.plain.specs.Utf8.{In, Tail, Safe, utf1, utf2, utf3_E0, utf3_E1, utf3_ED, utf3_EE, utf4_F0, utf4_F1, utf4_F4, Safes, none, more}
-use Rattle.plain.specs.Utf8.{within, need, tails, broken, lead, safe_from, safe}
+use Rattle.plain.specs.Utf8.{within, need, tails, lead, follow, safe_from, safe}
 
 -- a range and its test
 module _ (lo hi x : ℕ) where
@@ -36,35 +37,35 @@ module _ (x : ℕ) where
   past : {m : ℕ} → m ≤ x → (lo hi : ℕ) → hi < m → within lo hi x ≡ false
   past h lo hi k = above lo hi x (omega (arith, h, k))
 
-  pub lead-utf1 : In 0x01 0x7F x → lead x ≡ tails 0
+  pub lead-utf1 : In 0x01 0x7F x → lead x ≡ Some (tails 0)
   unfolding lead
   lead-utf1 h = rw (in_within 0x01 0x7F x h)
 
-  pub lead-utf2 : In 0xC2 0xDF x → lead x ≡ tails 1
+  pub lead-utf2 : In 0xC2 0xDF x → lead x ≡ Some (tails 1)
   unfolding lead
   lead-utf2 h =
       let p = past h.0 in
       rw (p 0x01 0x7F (omega arith), in_within 0xC2 0xDF x h)
 
-  pub lead_utf3_E0 : In 0xE0 0xE0 x → lead x ≡ need 2 0xA0 0xBF
+  pub lead_utf3_E0 : In 0xE0 0xE0 x → lead x ≡ Some (need 2 0xA0 0xBF)
   unfolding lead
   lead_utf3_E0 h =
       let p = past h.0 in
       rw (p 0x01 0x7F (omega arith), p 0xC2 0xDF (omega arith), in_within 0xE0 0xE0 x h)
 
-  pub lead_utf3_E1 : In 0xE1 0xEC x → lead x ≡ tails 2
+  pub lead_utf3_E1 : In 0xE1 0xEC x → lead x ≡ Some (tails 2)
   unfolding lead
   lead_utf3_E1 h =
       let p = past h.0 in
       rw (p 0x01 0x7F (omega arith), p 0xC2 0xDF (omega arith), p 0xE0 0xE0 (omega arith), in_within 0xE1 0xEC x h)
 
-  pub lead_utf3_ED : In 0xED 0xED x → lead x ≡ need 2 0x80 0x9F
+  pub lead_utf3_ED : In 0xED 0xED x → lead x ≡ Some (need 2 0x80 0x9F)
   unfolding lead
   lead_utf3_ED h =
       let p = past h.0 in
       rw (p 0x01 0x7F (omega arith), p 0xC2 0xDF (omega arith), p 0xE0 0xE0 (omega arith), p 0xE1 0xEC (omega arith), in_within 0xED 0xED x h)
 
-  pub lead_utf3_EE : In 0xEE 0xEF x → lead x ≡ tails 2
+  pub lead_utf3_EE : In 0xEE 0xEF x → lead x ≡ Some (tails 2)
   unfolding lead
   lead_utf3_EE h =
       let p = past h.0 in
@@ -77,7 +78,7 @@ module _ (x : ℕ) where
         in_within 0xEE 0xEF x h,
       )
 
-  pub lead_utf4_F0 : In 0xF0 0xF0 x → lead x ≡ need 3 0x90 0xBF
+  pub lead_utf4_F0 : In 0xF0 0xF0 x → lead x ≡ Some (need 3 0x90 0xBF)
   unfolding lead
   lead_utf4_F0 h =
       let p = past h.0 in
@@ -91,7 +92,7 @@ module _ (x : ℕ) where
         in_within 0xF0 0xF0 x h,
       )
 
-  pub lead_utf4_F1 : In 0xF1 0xF3 x → lead x ≡ tails 3
+  pub lead_utf4_F1 : In 0xF1 0xF3 x → lead x ≡ Some (tails 3)
   unfolding lead
   lead_utf4_F1 h =
       let p = past h.0 in
@@ -106,7 +107,7 @@ module _ (x : ℕ) where
         in_within 0xF1 0xF3 x h,
       )
 
-  pub lead_utf4_F4 : In 0xF4 0xF4 x → lead x ≡ need 3 0x80 0x8F
+  pub lead_utf4_F4 : In 0xF4 0xF4 x → lead x ≡ Some (need 3 0x80 0x8F)
   unfolding lead
   lead_utf4_F4 h =
       let p = past h.0 in
@@ -123,19 +124,19 @@ module _ (x : ℕ) where
       )
 
 -- and back: the row of a first octet
-pub data Row (x : ℕ) : Need → Type 0 where
-  row-utf1 : In 0x01 0x7F x → Row x (tails 0)
-  row-utf2 : In 0xC2 0xDF x → Row x (tails 1)
-  row_utf3_E0 : In 0xE0 0xE0 x → Row x (need 2 0xA0 0xBF)
-  row_utf3_E1 : In 0xE1 0xEC x → Row x (tails 2)
-  row_utf3_ED : In 0xED 0xED x → Row x (need 2 0x80 0x9F)
-  row_utf3_EE : In 0xEE 0xEF x → Row x (tails 2)
-  row_utf4_F0 : In 0xF0 0xF0 x → Row x (need 3 0x90 0xBF)
-  row_utf4_F1 : In 0xF1 0xF3 x → Row x (tails 3)
-  row_utf4_F4 : In 0xF4 0xF4 x → Row x (need 3 0x80 0x8F)
-  no_row : Row x broken
+pub data Row (x : ℕ) : Option Need → Type 0 where
+  row-utf1 : In 0x01 0x7F x → Row x (Some (tails 0))
+  row-utf2 : In 0xC2 0xDF x → Row x (Some (tails 1))
+  row_utf3_E0 : In 0xE0 0xE0 x → Row x (Some (need 2 0xA0 0xBF))
+  row_utf3_E1 : In 0xE1 0xEC x → Row x (Some (tails 2))
+  row_utf3_ED : In 0xED 0xED x → Row x (Some (need 2 0x80 0x9F))
+  row_utf3_EE : In 0xEE 0xEF x → Row x (Some (tails 2))
+  row_utf4_F0 : In 0xF0 0xF0 x → Row x (Some (need 3 0x90 0xBF))
+  row_utf4_F1 : In 0xF1 0xF3 x → Row x (Some (tails 3))
+  row_utf4_F4 : In 0xF4 0xF4 x → Row x (Some (need 3 0x80 0x8F))
+  no_row : Row x None
 
-pick : (x : ℕ) (b : Bool) (n m : Need) → (b ≡ true → Row x n) → Row x m → Row x (cond b n m)
+pick : (x : ℕ) (b : Bool) (n m : Option Need) → (b ≡ true → Row x n) → Row x m → Row x (cond b n m)
 pick x true n m f g = f refl
 pick x false n m f g = g
 
@@ -152,19 +153,9 @@ row x =
     pick x _ _ _ (λ e. row_utf4_F1 (within_in _ _ x e)) (
     pick x _ _ _ (λ e. row_utf4_F4 (within_in _ _ x e)) no_row))))))))
 
--- after a broken character nothing is safe
-pub nothing-within : (x : ℕ) → within 1 0 x ≡ false
-nothing-within zero = refl
-nothing-within (suc x) = above 1 0 (suc x) (omega arith)
-
-pub broken-never : (l : List ℕ) → safe_from broken l ≡ false
-unfolding safe_from
-broken-never [] = refl
-broken-never (x ∷ l) = rw (nothing-within x) (broken-never l)
-
 -- the next octet of a character
 data Next (lo hi k : ℕ) : List ℕ → Type 0 where
-  next : {b : ℕ} {l : List ℕ} → In lo hi b → safe_from (tails k) l ≡ true → Next lo hi k (b ∷ l)
+  next : {b : ℕ} {l : List ℕ} → In lo hi b → safe_from (Some (tails k)) l ≡ true → Next lo hi k (b ∷ l)
 
 not-met : (k : ℕ) → eqb (suc k) 0 ≡ false
 not-met k = ne_eqb (suc k) 0 (λ e. omega arith)
@@ -172,19 +163,22 @@ not-met k = ne_eqb (suc k) 0 (λ e. omega arith)
 one_less : (k : ℕ) → suc k - 1 ≡ k
 one_less k = omega arith
 
-next_of : (k lo hi : ℕ) (l : List ℕ) → safe_from (need (suc k) lo hi) l ≡ true → Next lo hi k l
+follow-more : (k lo hi b : ℕ) → follow (need (suc k) lo hi) b ≡ cond (within lo hi b) (Some (tails k)) None
+follow-more k lo hi b = rw (not-met k, one_less k)
+
+next_of : (k lo hi : ℕ) (l : List ℕ) → safe_from (Some (need (suc k) lo hi)) l ≡ true → Next lo hi k l
 unfolding safe_from
 next_of k lo hi [] e = absurd (false≢true (sym (not-met k) ∙ e))
-next_of k lo hi (b ∷ l) e = go (within lo hi b) refl (rw (not-met k, one_less k) at e)
+next_of k lo hi (b ∷ l) e = go (within lo hi b) refl (ap (λ o. safe_from o l) (sym (follow-more k lo hi b)) ∙ e)
   where
-    go : (t : Bool) → within lo hi b ≡ t → safe_from (cond t (tails k) broken) l ≡ true → Next lo hi k (b ∷ l)
+    go : (t : Bool) → within lo hi b ≡ t → safe_from (cond t (Some (tails k)) None) l ≡ true → Next lo hi k (b ∷ l)
     go true h e = next (within_in lo hi b h) e
-    go false h e = absurd (false≢true (sym (broken-never l) ∙ e))
+    go false h e = absurd (false≢true e)
 
 -- characters from their first octet a on; rec: what follows is of the grammar
 module _ (a : ℕ) where
   abbrev Rest : ℕ → Type 0
-  Rest n = (m : List ℕ) → length m ≤ n → safe_from (tails 0) m ≡ true → Safes m
+  Rest n = (m : List ℕ) → length m ≤ n → safe_from (Some (tails 0)) m ≡ true → Safes m
 
   two : (l : List ℕ) → ((b : ℕ) → Tail b → Safe (a ∷ b ∷ [])) → Next 0x80 0xBF 0 l → Rest (length l) → Safes (a ∷ l)
   two l con (next {b = b} {l = m} t e) rec = more (con b t) (rec m (omega arith) e)
@@ -204,7 +198,8 @@ module _ (a : ℕ) where
   four : (lo hi : ℕ) (l : List ℕ) → ((b c d : ℕ) → In lo hi b → Tail c → Tail d → Safe (a ∷ b ∷ c ∷ d ∷ [])) → Next lo hi 2 l → Rest (length l) → Safes (a ∷ l)
   four lo hi l con (next {b = b} {l = m} t e) rec = four_2 b m (λ c d u v. con b c d t u v) (next_of 1 0x80 0xBF m e) (λ n h. rec n (omega arith))
 
-  begun : (n : Need) → Row a n → (l : List ℕ) → safe_from n l ≡ true → Rest (length l) → Safes (a ∷ l)
+  begun : (n : Option Need) → Row a n → (l : List ℕ) → safe_from n l ≡ true → Rest (length l) → Safes (a ∷ l)
+  unfolding safe_from
   begun n (row-utf1 h) l e rec = more (utf1 h) (rec l (omega arith) e)
   begun n (row-utf2 h) l e rec = two l (λ b t. utf2 h t) (next_of 0 0x80 0xBF l e) rec
   begun n (row_utf3_E0 h) l e rec = three 0xA0 0xBF l (λ b c t u. utf3_E0 h t u) (next_of 1 0xA0 0xBF l e) rec
@@ -214,10 +209,10 @@ module _ (a : ℕ) where
   begun n (row_utf4_F0 h) l e rec = four 0x90 0xBF l (λ b c d t u v. utf4_F0 h t u v) (next_of 2 0x90 0xBF l e) rec
   begun n (row_utf4_F1 h) l e rec = four 0x80 0xBF l (λ b c d t u v. utf4_F1 h t u v) (next_of 2 0x80 0xBF l e) rec
   begun n (row_utf4_F4 h) l e rec = four 0x80 0x8F l (λ b c d t u v. utf4_F4 h t u v) (next_of 2 0x80 0x8F l e) rec
-  begun n no_row l e rec = absurd (false≢true (sym (broken-never l) ∙ e))
+  begun n no_row l e rec = absurd (false≢true e)
 
 -- n: so many octets at the most
-of_length : (n : ℕ) (l : List ℕ) → length l ≤ n → safe_from (tails 0) l ≡ true → Safes l
+of_length : (n : ℕ) (l : List ℕ) → length l ≤ n → safe_from (Some (tails 0)) l ≡ true → Safes l
 unfolding safe_from
 of_length zero [] h e = none
 of_length zero (a ∷ l) h e = absurd (omega arith)
@@ -229,7 +224,7 @@ pub safe-grammar : (l : List ℕ) → safe l ≡ true → Safes l
 safe-grammar l e = of_length (length l) l (omega arith) e
 
 -- and what is of the grammar passes
-after-character : {c : List ℕ} → Safe c → (l : List ℕ) → safe_from (tails 0) (c ++ l) ≡ safe_from (tails 0) l
+after-character : {c : List ℕ} → Safe c → (l : List ℕ) → safe_from (Some (tails 0)) (c ++ l) ≡ safe_from (Some (tails 0)) l
 unfolding safe_from
 after-character (utf1 {a} ha) l = rw (safe_from, lead-utf1 a ha)
 after-character (utf2 {a} {b} ha hb) l = rw (safe_from, lead-utf2 a ha, in_within _ _ b hb)

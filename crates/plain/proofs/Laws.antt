@@ -11,14 +11,14 @@ use lib.ListN.{length, take, length-append}
 use lib.Seq.{take-append_seam}
 use Rattle.octets.specs.Answers.{written}
 use Rattle.octets.proofs.Answers.{written_is, length-written, written-append}
-use Rattle.plain.specs.declared.Written.TheVariants as Writes
-use Rattle.plain.specs.declared.Written.TheVariants.{Unfit, Short}
+use Rattle.std.specs.Prelude.{Some, None, Ok, Err}
+use Rattle.plain.specs.declared.WriteError.TheVariants.{Unfit, Short}
 use Rattle.octets.specs.Lists.{is_empty, holds, before, after}
 use Rattle.octets.proofs.Cases.{both}
 use Rattle.octets.proofs.Words.{before-cut, after-cut, holds-cut}
-use Rattle.plain.specs.declared.Fields.TheVariants.{Lengths, Malformed}
+use Rattle.plain.specs.declared.Lengths.{Lengths}
 use Rattle.plain.specs.Utf8.{safe}
-use Rattle.plain.specs.Message.{joined, Message, fit, authzid_in, authcid_in, password_in, well_formed, fields, writing, written_into}
+use Rattle.plain.specs.Message.{joined, Message, fit, authzid_in, authcid_in, password_in, well_formed, lengths, fields, writing, written_into}
 use Rattle.plain.proofs.Grammar.{safe-grammar, grammar-safe, safe-no_nul}
 
 -- a list that is cut at its first x
@@ -73,7 +73,7 @@ module _ (a c p : List ℕ) (e : fit a c p ≡ true) where
   well-joined =
       rw (holds-cut 0 a (c ++ (0 ∷ p)), authzid-joined, after-cut 0 a (c ++ (0 ∷ p)) no-first, holds-cut 0 c p, before-cut 0 c p no_second, after-cut 0 c p no_second) e
 
-  pub fields-joined : fields (joined a c p) ≡ Lengths (length a) (length c) (length p)
+  pub fields-joined : fields (joined a c p) ≡ Some (lengths (length a) (length c) (length p))
   unfolding fields
   fields-joined = rw (well-joined, authzid-joined, authcid-joined, password-joined)
 
@@ -99,22 +99,23 @@ module _ (m : List ℕ) (e : well_formed m ≡ true) where
       ∙ omega (arith, length-append (authcid_in m) (0 ∷ password_in m))
 
 -- where three lengths are read, the message is well formed and they are its fields'
-pub lengths_read : (m : List ℕ) (a c p : ℕ) → fields m ≡ Lengths a c p
-    → (well_formed m ≡ true) × (a ≡ length (authzid_in m)) × (c ≡ length (authcid_in m)) × (p ≡ length (password_in m))
+pub lengths_read : (m : List ℕ) (k : Lengths) → fields m ≡ Some k
+    → (well_formed m ≡ true) × (k.authzid ≡ length (authzid_in m)) × (k.authcid ≡ length (authcid_in m)) × (k.password ≡ length (password_in m))
 unfolding fields
-lengths_read m a c p e = go (well_formed m) e
+lengths_read m k e = go (well_formed m) e
   where
-    go : (b : Bool) → cond b (Lengths (length (authzid_in m)) (length (authcid_in m)) (length (password_in m))) Malformed ≡ Lengths a c p
-        → (b ≡ true) × (a ≡ length (authzid_in m)) × (c ≡ length (authcid_in m)) × (p ≡ length (password_in m))
-    go true f = (refl, cc, cc, cc)
-    go false f = let z : ◌≡◌ {A = ℕ} 0 1 = cc in absurd (omega arith)
+    go : (b : Bool) → cond b (Some (lengths (length (authzid_in m)) (length (authcid_in m)) (length (password_in m)))) None ≡ Some k
+        → (b ≡ true) × (k.authzid ≡ length (authzid_in m)) × (k.authcid ≡ length (authcid_in m)) × (k.password ≡ length (password_in m))
+    go true f = let g : lengths (length (authzid_in m)) (length (authcid_in m)) (length (password_in m)) ≡ k = cc in
+        (refl, sym (ap (λ (x : Lengths). x.authzid) g), sym (ap (λ (x : Lengths). x.authcid) g), sym (ap (λ (x : Lengths). x.password) g))
+    go false f = absurd (cc)
 
 -- so these and two are its length
-pub lengths-sum : (m : List ℕ) (a c p : ℕ) → fields m ≡ Lengths a c p → length m ≡ a + c + p + 2
-lengths-sum m a c p e = let r = lengths_read m a c p e in omega (arith, message-length m r.0, r.1, r.2, r.3)
+pub lengths-sum : (m : List ℕ) (k : Lengths) → fields m ≡ Some k → length m ≡ k.authzid + k.authcid + k.password + 2
+lengths-sum m k e = let r = lengths_read m k e in omega (arith, message-length m r.0, r.1, r.2, r.3)
 
 -- and what the grammar puts together is well formed
-pub grammar-message : (a c p : List ℕ) → Message a c p → fields (joined a c p) ≡ Lengths (length a) (length c) (length p)
+pub grammar-message : (a c p : List ℕ) → Message a c p → fields (joined a c p) ≡ Some (lengths (length a) (length c) (length p))
 grammar-message a c p m = fields-joined a c p (grammar-fit a c p m)
 
 -- ---- the writer
@@ -146,36 +147,18 @@ module _ (a c p : List ℕ) where
         → (length a + 1 + length c + 1 + length p ≡ length (joined a c p)) × (o5 ≡ written o 0 (joined a c p))
     five-parts e1 e2 e3 e4 e5 = (omega (arith, length-joined), rw (e5, e4, e3, e2, e1) parts)
 
-  -- what is written, by the two tests
-  module _ (o : List ℕ) where
-    pub unfit : fit a c p ≡ false → (Unfit ≡ writing a c p (length o)) × (o ≡ written_into a c p o)
-    unfolding writing written_into
-    unfit e = (rw e, rw e)
-
-    pub short : fit a c p ≡ true → leb (length a + (length c + length p + 2)) (length o) ≡ false → (Short ≡ writing a c p (length o)) × (o ≡ written_into a c p o)
-    unfolding writing written_into
-    short e f =
-        let g : leb (length (joined a c p)) (length o) ≡ false = rw length-joined f in
-        let k : leb (0 + length (joined a c p)) (length o) ≡ false = rw (zero-add (length (joined a c p))) g in
-        (rw (e, g), rw (e, k))
-
-    pub wrote : fit a c p ≡ true → leb (length a + (length c + length p + 2)) (length o) ≡ true → (n : ℕ) (w : List ℕ) → n ≡ length (joined a c p) → w ≡ written o 0 (joined a c p)
-        → (Writes.Length n ≡ writing a c p (length o)) × (w ≡ written_into a c p o)
-    unfolding writing written_into
-    wrote e f n w u v = let g : leb (length (joined a c p)) (length o) ≡ true = rw length-joined f in (rw (e, g, u), rw e v)
-
 -- what the writer wrote, read again, has the fields' lengths, and is these fields joined (M-100 of document 02)
-pub read_back : (a c p o : List ℕ) (n : ℕ) → writing a c p (length o) ≡ Writes.Length n
-    → (fields (take n (written_into a c p o)) ≡ Lengths (length a) (length c) (length p)) × (take n (written_into a c p o) ≡ joined a c p)
+pub read_back : (a c p o : List ℕ) (n : ℕ) → writing a c p (length o) ≡ Ok n
+    → (fields (take n (written_into a c p o)) ≡ Some (lengths (length a) (length c) (length p))) × (take n (written_into a c p o) ≡ joined a c p)
 unfolding writing written_into
 read_back a c p o n e = go (fit a c p) refl (leb (length (joined a c p)) (length o)) refl e
   where
-    go : (f : Bool) → fit a c p ≡ f → (g : Bool) → leb (length (joined a c p)) (length o) ≡ g → cond f (cond g (Writes.Length (length (joined a c p))) Short) Unfit ≡ Writes.Length n
-        → (fields (take n (cond f (written o 0 (joined a c p)) o)) ≡ Lengths (length a) (length c) (length p)) × (take n (cond f (written o 0 (joined a c p)) o) ≡ joined a c p)
+    go : (f : Bool) → fit a c p ≡ f → (g : Bool) → leb (length (joined a c p)) (length o) ≡ g → cond f (cond g (Ok (length (joined a c p))) (Err Short)) (Err Unfit) ≡ Ok n
+        → (fields (take n (cond f (written o 0 (joined a c p)) o)) ≡ Some (lengths (length a) (length c) (length p))) × (take n (cond f (written o 0 (joined a c p)) o) ≡ joined a c p)
     go true f true g e =
         let z : length (joined a c p) ≡ n = cc in
         let h : 0 + length (joined a c p) ≤ length o = omega (arith, leb-true (length (joined a c p)) (length o) g) in
         let t : take n (written o 0 (joined a c p)) ≡ joined a c p = ap (take n) (written_is o 0 (joined a c p) h) ∙ rw (← z) (take-append_seam (joined a c p) _) in
         (rw t (fields-joined a c p f), t)
-    go true f false g e = let z : ◌≡◌ {A = ℕ} 0 1 = cc in absurd (omega arith)
-    go false f g h e = let z : ◌≡◌ {A = ℕ} 0 1 = cc in absurd (omega arith)
+    go true f false g e = absurd (cc)
+    go false f g h e = absurd (cc)

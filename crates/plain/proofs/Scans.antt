@@ -2,41 +2,53 @@
 use mathlib.Core.Path.{◌≡◌, refl, sym, ◌∙◌, ap}
 use mathlib.Core.Bool.{Bool, true, false, cond, not, ◌&&◌, and-false}
 use mathlib.Core.List.{List, [], ◌∷◌, ◌++◌}
-use Prim.Native.Nat.{ℕ, zero, suc, ◌+◌, ◌-◌, ◌<◌, ◌≤◌}
+use Prim.Native.Nat.{ℕ, zero, suc, ◌+◌, ◌-◌, ◌/◌, ◌<◌, ◌≤◌}
 use native.Mathlib.Nat.{add-zero, zero-add}
-use native.Mathlib.Numerals.{add-one}
 use native.Mathlib.Omega.{arith}
-use borrow.Author.Tests.{lt-ltb, eq-eqb, ne_eqb, eqb-true, eqb-false}
+use borrow.Author.Tests.{lt-ltb, ne_eqb}
 use lib.Dec.{ltb, eqb}
-use lib.ListN.{length, get_or, drop, drop_of_length-le}
-use lib.Seq.{drop-cons}
+use lib.ListN.{length, get_or, drop}
+use Rattle.std.proofs.lemmas.List.{drop_more, drop_all}
+use Rattle.std.specs.Prelude.{Option, Some, None, option_and_then}
 use Rattle.octets.specs.Lists.{is_empty, holds, before, after}
+use Rattle.octets.proofs.Cases.{picked}
+use Rattle.std.specs.List.{flat_map}
+use Rattle.std.specs.Simd.{first_chunks}
 use Rattle.base64text.specs.Base64.{octets, octets_of}
-use Rattle.base64text.specs.Private.{group_at}
+use Rattle.base64text.proofs.Laws.{octets_at, octets_groups}
 use Rattle.base64text.specs.declared.Group.{Group}
-use Rattle.base64text.specs.declared.Group.TheVariants.{One, Two, Three, Bad}
-use Rattle.base64text.proofs.Laws.{octets-turn, octets-end}
-use Rattle.plain.specs.declared.Fields.{Fields}
-use Rattle.plain.specs.declared.Fields.TheVariants.{Lengths, Malformed}
+use Rattle.base64text.specs.declared.Group.TheVariants.{One, Two, Three}
+use Rattle.plain.specs.declared.Lengths.{Lengths}
+use Rattle.plain.specs.declared.scan.Field.{Field}
+use Rattle.plain.specs.declared.scan.Field.TheVariants.{Authzid, Authcid, Password}
 use Rattle.plain.specs.declared.scan.Scan.{Scan}
 use Rattle.plain.specs.declared.utf8.Need.{Need}
-use Rattle.plain.specs.Utf8.{within, tails, broken, lead, follow, safe_from, safe}
-use Rattle.plain.specs.Message.{well_formed, fields}
-use Rattle.plain.specs.Private.{started, ends, longer, step, scan, finished}
+use Rattle.plain.specs.Utf8.{within, tails, lead, follow, safe_from, safe}
+use Rattle.plain.specs.Message.{lengths, well_formed, fields}
+use Rattle.plain.specs.Private.{scanned, started, next, begun, ended, gone_on, longer, step, scan, finished}
 use Rattle.plain.proofs.Grammar.{Row, row-utf1, row-utf2, row_utf3_E0, row_utf3_E1, row_utf3_ED, row_utf3_EE, row_utf4_F0, row_utf4_F1, row_utf4_F4}
-use Rattle.plain.proofs.Grammar.{no_row, row, below, nothing-within}
+use Rattle.plain.proofs.Grammar.{no_row, row, below}
+
+-- what is read from a scan on
+abbrev pub result : Option Scan → List ℕ → Option Lengths
+result s l = option_and_then finished (scan s l)
 
 -- in two parts
-pub scan-append : (s : Scan) (l r : List ℕ) → scan s (l ++ r) ≡ scan (scan s l) r
+pub scan-append : (s : Option Scan) (l r : List ℕ) → scan s (l ++ r) ≡ scan (scan s l) r
 unfolding scan
-scan-append s [] r = refl
-scan-append s (x ∷ l) r = scan-append (step s x) l r
+scan-append None l r = refl
+scan-append (Some s) [] r = refl
+scan-append (Some s) (x ∷ l) r = scan-append (step s x) l r
 
--- NUL is never in the middle of a character
+-- NUL goes on no character
 abbrev Sound : Need → Type 0
 Sound n = 1 ≤ n.lo
 
-row-sound : (x : ℕ) (n : Need) → Row x n → Sound n
+abbrev Sounds : Option Need → Type 0
+Sounds None = Unit {0}
+Sounds (Some n) = Sound n
+
+row-sound : (x : ℕ) (n : Option Need) → Row x n → Sounds n
 row-sound x n (row-utf1 h) = omega arith
 row-sound x n (row-utf2 h) = omega arith
 row-sound x n (row_utf3_E0 h) = omega arith
@@ -46,98 +58,79 @@ row-sound x n (row_utf3_EE h) = omega arith
 row-sound x n (row_utf4_F0 h) = omega arith
 row-sound x n (row_utf4_F1 h) = omega arith
 row-sound x n (row_utf4_F4 h) = omega arith
-row-sound x n no_row = omega arith
+row-sound x n no_row = tt
 
-picked-sound : (b : Bool) (n m : Need) → Sound n → Sound m → Sound (cond b n m)
-picked-sound true n m h k = h
-picked-sound false n m h k = k
+follow-sound : (n : Need) (x : ℕ) → Sounds (follow n x)
+follow-sound n x = go (eqb n.more 0) (within n.lo n.hi x)
+  where
+    go : (b c : Bool) → Sounds (cond b (lead x) (cond c (Some (tails (n.more - 1))) None))
+    go true c = row-sound x (lead x) (row x)
+    go false true = omega arith
+    go false false = tt
 
-follow-sound : (n : Need) (x : ℕ) → Sound (follow n x)
-follow-sound n x =
-    picked-sound (eqb n.more 0) _ _ (row-sound x (lead x) (row x))
-    (picked-sound (within n.lo n.hi x) (tails (n.more - 1)) broken (omega arith) (omega arith))
+-- NUL, and any other octet
+nul : (s : Scan) → step s 0 ≡ ended s
+unfolding step
+nul s = refl
 
--- a scan of which the character is broken comes to nothing
-module _ (s : Scan) where
-  broken-step : (x : ℕ) → s.need ≡ broken → (step s x).need ≡ broken
-  unfolding step
-  broken-step x e = rw (e, and-false (eqb x 0), nothing-within x)
-
-module _ (s : Scan) where
-  broken-end : s.need ≡ broken → finished s ≡ Malformed
-  unfolding finished
-  broken-end e = rw (e, and-false (eqb s.field 2))
-
-broken-scan : (s : Scan) (l : List ℕ) → s.need ≡ broken → finished (scan s l) ≡ Malformed
-unfolding scan
-broken-scan s [] e = broken-end s e
-broken-scan s (x ∷ l) e = broken-scan (step s x) l (broken-step s x e)
-
--- ---- one field
-
--- where a field ends after k octets more
-abbrev ended_after : Scan → ℕ → Scan
-ended_after s k =
-    cond (eqb s.field 0) (record { need = tails 0; field = 1; authzid = s.length + k; authcid = s.authcid; length = 0 })
-    (record { need = tails 0; field = 2; authzid = s.authzid; authcid = s.length + k; length = 0 })
-
--- what is left to read, from the scan s on: up to the next NUL, and from there on
-abbrev Left : Scan → List ℕ → Fields
-Left s l = cond (holds 0 l && safe_from s.need (before 0 l)) (finished (scan (ended_after s (length (before 0 l))) (after 0 l))) Malformed
-
-module _ (s : Scan) (h : s.field < 2) where
-  unfinished : finished s ≡ Malformed
-  unfolding finished
-  unfinished = rw (ne_eqb s.field 2 (λ e. omega arith))
-
-  -- NUL where a character may begin, and where none may
-  nul_ends : s.need.more ≡ 0 → step s 0 ≡ ended_after s 0
-  unfolding step
-  nul_ends e = rw (eq-eqb _ _ e, lt-ltb _ _ h, add-zero)
-
-  nul_breaks : Sound s.need → (s.need.more ≡ 0 → ⊥) → (step s 0).need ≡ broken
-  unfolding step
-  nul_breaks k e = rw (ne_eqb _ _ e, below s.need.lo s.need.hi 0 k)
-
-  nul : (l : List ℕ) → Sound s.need → (b : Bool) → eqb s.need.more 0 ≡ b → finished (scan (step s 0) l) ≡ cond b (finished (scan (ended_after s 0) l)) Malformed
-  nul l k true e = ap (λ u. finished (scan u l)) (nul_ends (eqb-true _ _ e))
-  nul l k false e = broken-scan (step s 0) l (nul_breaks k (eqb-false _ _ e))
-
--- any other octet
 other : (s : Scan) (x : ℕ) → (x ≡ 0 → ⊥) → step s x ≡ longer s x
 unfolding step
 other s x e = rw (ne_eqb x 0 e)
 
-after_one : (s : Scan) (x k : ℕ) → ended_after (longer s x) k ≡ ended_after s (suc k)
-after_one s x k = let e : s.length + 1 + k ≡ s.length + suc k = omega arith in rw e
+-- ---- a field that NUL ends: f, of which k octets are read, and what must follow is n
 
-field-read : (l : List ℕ) (s : Scan) → s.field < 2 → Sound s.need → finished (scan s l) ≡ Left s l
-unfolding scan before after safe_from
-field-read [] s h k = unfinished s h
-field-read (zero ∷ l) s h k = nul s h l k (eqb s.need.more 0) refl
-field-read (suc x ∷ l) s h k =
-    let z : eqb (suc x) 0 ≡ false = ne_eqb (suc x) 0 (λ e. omega arith) in
-    ap (λ u. finished (scan u l)) (other s (suc x) (λ e. omega arith)) ∙ field-read l (longer s (suc x)) h (follow-sound s.need (suc x))
-    ∙ rw (z, after_one s (suc x) (length (before 0 l)))
+module _ (f : Field) (h : (n : Need) (k : ℕ) → finished (scanned n f k) ≡ None) where
+  -- where NUL comes
+  at-nul : (l : List ℕ) (n : Need) (k : ℕ) (b : Bool) → eqb n.more 0 ≡ b
+      → result (cond (eqb n.more 0) (begun (next f k)) None) l ≡ cond (eqb n.more 0) (result (begun (next f (k + 0))) l) None
+  unfolding scan
+  at-nul l n k true e = rw (e, add-zero)
+  at-nul l n k false e = rw e
+
+  field-read : (l : List ℕ) (n : Need) (k : ℕ)
+      → result (Some (scanned n f k)) l ≡ cond (holds 0 l && safe_from (Some n) (before 0 l)) (result (begun (next f (k + length (before 0 l)))) (after 0 l)) None
+  unfolding scan step before after safe_from
+  field-read [] n k = h n k
+  field-read (zero ∷ l) n k = at-nul l n k (eqb n.more 0) refl
+  field-read (suc x ∷ l) n k =
+      let z : eqb (suc x) 0 ≡ false = ne_eqb (suc x) 0 (λ e. omega arith) in
+      ap (λ o. result o l) (other (scanned n f k) (suc x) (λ e. omega arith))
+      ∙ rw z (go (follow n (suc x)) (λ m. field-read l m (k + 1)))
+    where
+      go : (o : Option Need)
+          → ((m : Need) → result (Some (scanned m f (k + 1))) l ≡ cond (holds 0 l && safe_from (Some m) (before 0 l)) (result (begun (next f (k + 1 + length (before 0 l)))) (after 0 l)) None)
+          → result (gone_on o (scanned n f k)) l ≡ cond (holds 0 l && safe_from o (before 0 l)) (result (begun (next f (k + suc (length (before 0 l))))) (after 0 l)) None
+      go None ih = rw (and-false (holds 0 l))
+      go (Some m) ih = let e : k + 1 + length (before 0 l) ≡ k + suc (length (before 0 l)) = omega arith in rw e at (ih m)
 
 -- ---- the last field
 
-module _ (s : Scan) (h : s.field ≡ 2) where
-  last_step : (x : ℕ) → step s x ≡ longer s x
-  unfolding step
-  last_step x = rw (h, and-false (eqb s.need.more 0), and-false (eqb x 0))
+follow-nul : (n : Need) → Sound n → follow n 0 ≡ None
+unfolding lead
+follow-nul n h = go (eqb n.more 0)
+  where
+    go : (b : Bool) → cond b (lead 0) (cond (within n.lo n.hi 0) (Some (tails (n.more - 1))) None) ≡ None
+    go true = refl
+    go false = rw (below n.lo n.hi 0 h)
 
-  last_end : finished s ≡ cond (eqb s.need.more 0 && ltb 0 s.authcid && ltb 0 s.length) (Lengths s.authzid s.authcid s.length) Malformed
-  unfolding finished
-  last_end = rw h
+module _ (a c : ℕ) where
+  abbrev whole : Bool → ℕ → Option Lengths
+  whole b k = cond (b && ltb 0 c && ltb 0 k) (Some (lengths a c k)) None
 
-last-read : (l : List ℕ) (s : Scan) → s.field ≡ 2
-    → finished (scan s l) ≡ cond (safe_from s.need l && ltb 0 s.authcid && ltb 0 (s.length + length l)) (Lengths s.authzid s.authcid (s.length + length l)) Malformed
-unfolding scan safe_from
-last-read [] s h = rw add-zero (last_end s h)
-last-read (x ∷ l) s h =
-    let e : s.length + 1 + length l ≡ s.length + suc (length l) = omega arith in
-    ap (λ u. finished (scan u l)) (last_step s h x) ∙ last-read l (longer s x) h ∙ rw e
+  last-read : (l : List ℕ) (n : Need) (k : ℕ) → Sound n → result (Some (scanned n (Password a c) k)) l ≡ whole (safe_from (Some n) l) (k + length l)
+  unfolding scan finished safe_from
+  last-read [] n k h = rw add-zero
+  last-read (zero ∷ l) n k h =
+      ap (λ o. result o l) (nul (scanned n (Password a c) k) ∙ picked (λ (o : Option Scan). o ≡ None) (eqb n.more 0) None None refl refl)
+      ∙ ap (λ o. whole (safe_from o l) (k + suc (length l))) (sym (follow-nul n h))
+  last-read (suc x ∷ l) n k h =
+      ap (λ o. result o l) (other (scanned n (Password a c) k) (suc x) (λ e. omega arith))
+      ∙ go (follow n (suc x)) (follow-sound n (suc x)) (λ m s. last-read l m (k + 1) s)
+    where
+      go : (o : Option Need) → Sounds o → ((m : Need) → Sound m → result (Some (scanned m (Password a c) (k + 1))) l ≡ whole (safe_from (Some m) l) (k + 1 + length l))
+          → result (gone_on o (scanned n (Password a c) k)) l ≡ whole (safe_from o l) (k + suc (length l))
+      go None s ih = refl
+      go (Some m) s ih = let e : k + 1 + length l ≡ k + suc (length l) = omega arith in rw e at (ih m s)
 
 -- ---- a message
 
@@ -147,7 +140,7 @@ some-octets [] = refl
 some-octets (x ∷ l) = lt-ltb 0 (suc (length l)) (omega arith)
 
 -- the tests one after the other, and all at once
-module _ (x y : Fields) (k c n p m : Bool) where
+module _ (x y : Option Lengths) (k c n p m : Bool) where
   in_turn : (h a : Bool) → cond (h && a) (cond (k && c) (cond (p && n && m) x y) y) y ≡ cond (h && k && (a && (c && n) && (p && m))) x y
   in_turn false a = refl
   in_turn true false = rw (and-false k)
@@ -163,19 +156,17 @@ module _ (x y : Fields) (k c n p m : Bool) where
       second true false = refl
       second true true = third p n m
 
-pub scanned : (m : List ℕ) → finished (scan started m) ≡ fields m
-unfolding well_formed fields
-scanned m =
+pub scanned-fields : (m : List ℕ) → result (Some started) m ≡ fields m
+unfolding well_formed fields finished
+scanned-fields m =
     let a = before 0 m in
     let r = after 0 m in
-    let s : Scan = record { need = tails 0; field = 1; authzid = length a; authcid = 0; length = 0 } in
-    let u : Scan = record { need = tails 0; field = 2; authzid = length a; authcid = length (before 0 r); length = 0 } in
-    field-read m started (omega arith) (omega arith)
+    field-read Authzid (λ n k. refl) m (tails 0) 0
     ∙ rw (
       zero-add (length a),
-      field-read r s (omega arith) (omega arith),
+      field-read (Authcid (length a)) (λ n k. refl) r (tails 0) 0,
       zero-add (length (before 0 r)),
-      last-read (after 0 r) u refl,
+      last-read (length a) (length (before 0 r)) (after 0 r) (tails 0) 0 (omega arith),
       zero-add (length (after 0 r)),
       some-octets (before 0 r),
       some-octets (after 0 r),
@@ -184,67 +175,83 @@ scanned m =
 
 -- ---- turns of the loops
 
+-- over a field
+module _ (n : Need) (l : List ℕ) (i : ℕ) where
+  pub safe_turn : i < length l → safe_from (Some n) (drop i l) ≡ safe_from (follow n (get_or l i 0)) (drop (i + 1) l)
+  unfolding safe_from
+  safe_turn h = ap (safe_from (Some n)) (drop_more l i 0 h)
+
+  pub safe_end : length l ≤ i → safe_from (Some n) (drop i l) ≡ eqb n.more 0
+  unfolding safe_from
+  safe_end h = ap (safe_from (Some n)) (drop_all i l h)
+
+pub safe_none : (l : List ℕ) → safe_from None l ≡ false
+unfolding safe_from
+safe_none l = refl
+
+pub ruleset checking = (safe_turn, safe_end, safe_none)
+
 -- an octet adds one at the most to a field's length
-module _ (s : Scan) (x : ℕ) where
-  step-grows : (step s x).length ≤ s.length + 1
-  unfolding step
-  step-grows = go (ends s x) (eqb s.field 0)
-    where
-      first : Scan
-      first = record { need = tails 0; field = 1; authzid = s.length; authcid = s.authcid; length = 0 }
-
-      second : Scan
-      second = record { need = tails 0; field = 2; authzid = s.authzid; authcid = s.length; length = 0 }
-
-      go : (b t : Bool) → (cond b (cond t first second) (longer s x)).length ≤ s.length + 1
-      go true true = omega arith
-      go true false = omega arith
-      go false t = omega arith
-
-  pub grown : (u : Scan) → u ≡ step s x → u.length ≤ s.length + 1
-  grown u e = rw e step-grows
-
-scan-grows : (s : Scan) (l : List ℕ) → (scan s l).length ≤ s.length + length l
-unfolding scan
-scan-grows s [] = omega arith
-scan-grows s (x ∷ l) = omega (arith, scan-grows (step s x) l, step-grows s x)
-
-pub grown-by : (s : Scan) (l : List ℕ) (u : Scan) → u ≡ scan s l → u.length ≤ s.length + length l
-grown-by s l u e = rw e (scan-grows s l)
+pub grown : (s u : Scan) (x : ℕ) → step s x ≡ Some u → u.length ≤ s.length + 1
+unfolding step
+grown s u x e = go (eqb x 0) (eqb s.need.more 0) (next s.field s.length) (follow s.need x) e
+  where
+    go : (b c : Bool) (f : Option Field) (n : Option Need) → cond b (cond c (begun f) None) (gone_on n s) ≡ Some u → u.length ≤ s.length + 1
+    go true true None n e = absurd (cc)
+    go true true (Some f) n e = let k : scanned (tails 0) f 0 ≡ u = cc in omega (arith, ap (λ (z : Scan). z.length) k)
+    go true false f n e = absurd (cc)
+    go false c f None e = absurd (cc)
+    go false c f (Some n) e = let k : scanned n s.field (s.length + 1) ≡ u = cc in omega (arith, ap (λ (z : Scan). z.length) k)
 
 -- over a message
-module _ (m : List ℕ) (s : Scan) (i : ℕ) where
-  pub turn : i < length m → finished (scan s (drop i m)) ≡ fields m → (u : Scan) → u ≡ step s (get_or m i 0) → finished (scan u (drop (i + 1) m)) ≡ fields m
+module _ (s : Scan) (l : List ℕ) (i : ℕ) where
+  pub read_turn : i < length l → result (Some s) (drop i l) ≡ result (step s (get_or l i 0)) (drop (i + 1) l)
   unfolding scan
-  turn h inv u e = rw (e, add-one) (rw (drop-cons m i 0 h) at inv)
+  read_turn h = ap (result (Some s)) (drop_more l i 0 h)
 
-  pub turned : length m ≤ i → finished (scan s (drop i m)) ≡ fields m → finished s ≡ fields m
+  pub read_end : length l ≤ i → result (Some s) (drop i l) ≡ finished s
   unfolding scan
-  turned h inv = rw (drop_of_length-le m {i = i} h) at inv
+  read_end h = ap (result (Some s)) (drop_all i l h)
 
--- over a response in base64
-module _ (t : List ℕ) (s : Scan) (i : ℕ) where
-  pub group-turn : i + 4 ≤ length t → finished (scan s (octets (drop i t))) ≡ fields (octets t) → (g : Group) → g ≡ group_at t i → (u : Scan) → u ≡ scan s (octets_of g)
-      → finished (scan u (octets (drop (i + 4) t))) ≡ fields (octets t)
-  group-turn h inv g f u e =
-      rw (e, f) (ap finished (sym (scan-append s (octets_of (group_at t i)) (octets (drop (i + 4) t)))) ∙ rw (octets-turn t i h) at inv)
+pub nothing_more : (l : List ℕ) → result None l ≡ None
+unfolding scan
+nothing_more l = refl
 
-  pub groups-turned : length t < i + 4 → finished (scan s (octets (drop i t))) ≡ fields (octets t) → finished s ≡ fields (octets t)
+pub read_all : (m : List ℕ) → fields m ≡ result (Some started) m
+read_all m = sym (scanned-fields m)
+
+pub ruleset reading = (read_turn, read_end, read_all, nothing_more, grown)
+
+-- over a response in base64, group by group
+pub grown_by : (l : List ℕ) (s u : Scan) → scan (Some s) l ≡ Some u → u.length ≤ s.length + length l
+unfolding scan
+grown_by [] s u e = let k : s ≡ u = cc in omega (arith, ap (λ (z : Scan). z.length) k)
+grown_by (x ∷ l) s u e = go (step s x) refl e (λ v f. grown_by l v u f)
+  where
+    go : (o : Option Scan) → step s x ≡ o → scan o l ≡ Some u → ((v : Scan) → scan (Some v) l ≡ Some u → u.length ≤ v.length + length l) → u.length ≤ s.length + suc (length l)
+    go None f e rec = absurd (cc)
+    go (Some v) f e rec = omega (arith, grown s v x f, rec v e)
+
+pub three_most : (g : Group) → length (octets_of g) ≤ 3
+three_most (One x) = omega arith
+three_most (Two x y) = omega arith
+three_most (Three x y z) = omega arith
+
+module _ (s : Scan) (gs : List (List ℕ)) (i : ℕ) where
+  pub group_turn : i < length gs → result (Some s) (flat_map octets_at (drop i gs)) ≡ result (scan (Some s) (octets_at (get_or gs i []))) (flat_map octets_at (drop (i + 1) gs))
+  group_turn h =
+      ap (λ l. result (Some s) (flat_map octets_at l)) (drop_more gs i [] h)
+      ∙ ap (option_and_then finished) (scan-append (Some s) (octets_at (get_or gs i [])) (flat_map octets_at (drop (i + 1) gs)))
+
+  pub groups_end : length gs ≤ i → result (Some s) (flat_map octets_at (drop i gs)) ≡ finished s
   unfolding scan
-  groups-turned h inv = rw (octets-end t i h) at inv
+  groups_end h = ap (λ l. result (Some s) (flat_map octets_at l)) (drop_all i gs h)
 
-pub group-most : (g : Group) → length (octets_of g) ≤ 3
-group-most (One x) = omega arith
-group-most (Two x y) = omega arith
-group-most (Three x y z) = omega arith
-group-most Bad = omega arith
+pub no_octets : (s : Scan) → scan (Some s) [] ≡ Some s
+unfolding scan
+no_octets s = refl
 
--- over a field
-module _ (l : List ℕ) (n : Need) (i : ℕ) where
-  pub safe-turn : i < length l → safe_from n (drop i l) ≡ safe l → (u : Need) → u ≡ follow n (get_or l i 0) → safe_from u (drop (i + 1) l) ≡ safe l
-  unfolding safe_from
-  safe-turn h inv u e = rw (e, add-one) (rw (drop-cons l i 0 h) at inv)
+pub measure_all : (t : List ℕ) → fields (octets t) ≡ result (Some started) (flat_map octets_at (first_chunks 4 (length t / 4) t))
+measure_all t = sym (scanned-fields (octets t)) ∙ ap (result (Some started)) (octets_groups t)
 
-  pub safe-turned : length l ≤ i → safe_from n (drop i l) ≡ safe l → eqb n.more 0 ≡ safe l
-  unfolding safe_from
-  safe-turned h inv = rw (drop_of_length-le l {i = i} h) at inv
+pub ruleset measuring = (group_turn, groups_end, measure_all, no_octets, nothing_more, grown_by, three_most)

@@ -1,12 +1,11 @@
 -- A message of the mechanism PLAIN: three fields with a NUL between each two (RFC 4616 section 2; M-100 of document 02).
-use Rattle.std.specs.Prelude.{◌≡◌, Bool, false, cond, not, ◌&&◌, List, ◌∷◌, ◌++◌, ℕ, leb, length}
+use Rattle.std.specs.Prelude.{◌≡◌, Bool, false, cond, not, ◌&&◌, List, ◌∷◌, ◌++◌, ℕ, leb, length, Option, Some, None, Result, Ok, Err}
 use Rattle.octets.specs.Answers as Answers
 use Rattle.octets.specs.Lists.{is_empty, holds, before, after}
 use Rattle.base64text.specs.Base64 as Base64
-use Rattle.plain.specs.declared.Fields.{Fields}
-use Rattle.plain.specs.declared.Fields.TheVariants.{Lengths, Malformed}
-use Rattle.plain.specs.declared.Written.{Written}
-use Rattle.plain.specs.declared.Written.TheVariants as Writes
+use Rattle.plain.specs.declared.Lengths.{Lengths}
+use Rattle.plain.specs.declared.WriteError.{WriteError}
+use Rattle.plain.specs.declared.WriteError.TheVariants.{Unfit, Short}
 use Rattle.plain.specs.Utf8.{Safes, safe}
 
 -- message = [authzid] UTF8NUL authcid UTF8NUL passwd
@@ -42,18 +41,20 @@ unfoldable pub well_formed : List ℕ → Bool
 well_formed m = holds 0 m && holds 0 (after 0 m) && fit (authzid_in m) (authcid_in m) (password_in m)
 
 -- how many octets each of the three has
-unfoldable pub fields : List ℕ → Fields
-fields m = cond (well_formed m) (Lengths (length (authzid_in m)) (length (authcid_in m)) (length (password_in m))) Malformed
+abbrev pub lengths : ℕ → ℕ → ℕ → Lengths
+lengths a c p = record { authzid = a; authcid = c; password = p }
+
+unfoldable pub fields : List ℕ → Option Lengths
+fields m = cond (well_formed m) (Some (lengths (length (authzid_in m)) (length (authcid_in m)) (length (password_in m)))) None
 
 -- of a response in base64
-abbrev pub measured : List ℕ → Fields
+abbrev pub measured : List ℕ → Option Lengths
 measured t = fields (Base64.octets t)
 
 -- ---- the writer: refused where the fields make no message (21), then where the buffer is shorter than it (1); m: the buffer's length
 
-unfoldable pub writing : List ℕ → List ℕ → List ℕ → ℕ → Written
-writing a c p m =
-    cond (fit a c p) (cond (leb (length (joined a c p)) m) (Writes.Length (length (joined a c p))) Writes.Short) Writes.Unfit
+unfoldable pub writing : List ℕ → List ℕ → List ℕ → ℕ → Result ℕ WriteError
+writing a c p m = cond (fit a c p) (cond (leb (length (joined a c p)) m) (Ok (length (joined a c p))) (Err Short)) (Err Unfit)
 
 -- b: the buffer as it was lent
 unfoldable pub written_into : List ℕ → List ℕ → List ℕ → List ℕ → List ℕ

@@ -1,6 +1,6 @@
 -- UTF-8 without NUL: RFC 4616 section 2's SAFE, whose octets are RFC 3629 section 4's. The grammar, and a test for it that goes from octet to octet;
 -- they agree (`safe-grammar`, `grammar-safe`, proofs/Grammar.antt).
-use Rattle.std.specs.Prelude.{Bool, cond, ◌&&◌, List, [], ◌∷◌, ◌++◌, ℕ, ◌-◌, ◌≤◌, leb, eqb}
+use Rattle.std.specs.Prelude.{Bool, false, cond, ◌&&◌, List, [], ◌∷◌, ◌++◌, ℕ, ◌-◌, ◌≤◌, leb, eqb, Option, Some, None}
 use Rattle.plain.specs.declared.utf8.Need.{Need}
 
 -- ---- the grammar
@@ -38,38 +38,36 @@ pub data Safes : List ℕ → Type 0 where
 abbrev pub within : ℕ → ℕ → ℕ → Bool
 within lo hi x = leb lo x && leb x hi
 
--- what must follow: so many octets, the next of them from lo to hi and the others from 80 to BF; none: a character may begin
+-- what must follow: so many octets, the next of them from lo to hi and the others from 80 to BF; with no more a character may begin
 abbrev pub need : ℕ → ℕ → ℕ → Need
 need k lo hi = record { more = k; lo = lo; hi = hi }
 
 abbrev pub tails : ℕ → Need
 tails k = need k 0x80 0xBF
 
--- no octet can follow
-abbrev pub broken : Need
-broken = need 1 1 0
-
--- after the first octet of a character: the rows of UTF1 to UTF4
-unfoldable pub lead : ℕ → Need
+-- after the first octet of a character: the rows of UTF1 to UTF4; no character begins with another
+unfoldable pub lead : ℕ → Option Need
 lead x =
-    cond (within 0x01 0x7F x) (tails 0)
-    (cond (within 0xC2 0xDF x) (tails 1)
-    (cond (within 0xE0 0xE0 x) (need 2 0xA0 0xBF)
-    (cond (within 0xE1 0xEC x) (tails 2)
-    (cond (within 0xED 0xED x) (need 2 0x80 0x9F)
-    (cond (within 0xEE 0xEF x) (tails 2)
-    (cond (within 0xF0 0xF0 x) (need 3 0x90 0xBF)
-    (cond (within 0xF1 0xF3 x) (tails 3)
-    (cond (within 0xF4 0xF4 x) (need 3 0x80 0x8F)
-    broken))))))))
+    cond (within 0x01 0x7F x) (Some (tails 0))
+    (cond (within 0xC2 0xDF x) (Some (tails 1))
+    (cond (within 0xE0 0xE0 x) (Some (need 2 0xA0 0xBF))
+    (cond (within 0xE1 0xEC x) (Some (tails 2))
+    (cond (within 0xED 0xED x) (Some (need 2 0x80 0x9F))
+    (cond (within 0xEE 0xEF x) (Some (tails 2))
+    (cond (within 0xF0 0xF0 x) (Some (need 3 0x90 0xBF))
+    (cond (within 0xF1 0xF3 x) (Some (tails 3))
+    (cond (within 0xF4 0xF4 x) (Some (need 3 0x80 0x8F))
+    None))))))))
 
-abbrev pub follow : Need → ℕ → Need
-follow n x = cond (eqb n.more 0) (lead x) (cond (within n.lo n.hi x) (tails (n.more - 1)) broken)
+-- after one octet more, which may be none that can follow
+abbrev pub follow : Need → ℕ → Option Need
+follow n x = cond (eqb n.more 0) (lead x) (cond (within n.lo n.hi x) (Some (tails (n.more - 1))) None)
 
 -- octets that may follow, to the end of a character
-unfoldable pub safe_from : Need → List ℕ → Bool
-safe_from n [] = eqb n.more 0
-safe_from n (x ∷ l) = safe_from (follow n x) l
+unfoldable pub safe_from : Option Need → List ℕ → Bool
+safe_from None l = false
+safe_from (Some n) [] = eqb n.more 0
+safe_from (Some n) (x ∷ l) = safe_from (follow n x) l
 
 abbrev pub safe : List ℕ → Bool
-safe l = safe_from (tails 0) l
+safe l = safe_from (Some (tails 0)) l

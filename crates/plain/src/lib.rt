@@ -1,14 +1,12 @@
 // Messages of the mechanism PLAIN, RFC 4616.
 #![tactic(auto)]
 
-ghost use Rattle.std.specs.Prelude.{◌≡◌, ◌+◌, ◌≤◌, leb, length};
+ghost use Rattle.std.specs.Prelude.{◌≡◌, ◌+◌, ◌≤◌, ◌↔◌, length, IsSome};
 ghost use Rattle.octets.specs.Answers.{written};
-ghost use Rattle.base64text.specs.Base64.{value};
-ghost use Rattle.base64text.specs.Private.{values, group_at};
 ghost use Rattle.plain.specs.Utf8.{safe};
 ghost use Rattle.plain.specs.Message.{fields, measured, fit, joined, writing, written_into};
 
-use base64text::Group;
+use base64text::Values;
 use scan::Scan;
 use utf8::Need;
 
@@ -16,86 +14,59 @@ mod scan;
 mod utf8;
 
 // What a message's three fields are: how many octets each has.
-#[derive(Clone, Copy)]
-pub enum Fields {
-    Lengths {
-        authzid: usize,
-        authcid: usize,
-        password: usize,
-    },
-    Malformed,
+#[derive(Clone, Copy, Debug, PartialEq, Eq)]
+pub struct Lengths {
+    pub authzid: usize,
+    pub authcid: usize,
+    pub password: usize,
 }
 
-// Writing a message: how many octets were written. Unfit: the fields make no message. Short: the buffer is too short for it.
-#[derive(Clone, Copy)]
-pub enum Written {
-    Length(usize),
+// Why a message is not written. Unfit: the fields make none. Short: the buffer is too short for it.
+#[derive(Clone, Copy, Debug, PartialEq, Eq)]
+pub enum WriteError {
     Unfit,
     Short,
 }
 
-// The fields of a message.
-pub fn read(message: &[u8]) -> Fields
+// The fields of a message; none where it is malformed.
+#[tactic(auto, using(crate::proofs::Scans::reading))]
+pub fn read(message: &[u8]) -> Option<Lengths>
     ensures { result ≡ fields message.now }
 {
-    let mut s = Scan::started();
-    let mut i: usize = 0;
-    while i < message.len() {
-        s = s.step(message[i]);
-        i += 1;
+    let mut scan = Scan::started();
+    for x in message {
+        scan = scan.step(*x)?;
     }
-    s.finished()
-}
-
-// The number of a letter of base64, and 64 of any other octet.
-fn value(k: &[u8; 256], x: u8) -> u8
-    requires { k.now ≡ values }
-    ensures { result ≡ value x }
-{
-    k[x as usize]
-}
-
-// What stands for octets at index i of a text in base64.
-#[tactic(auto, unfolding(base64text::specs::Base64::group_of))]
-fn group_at(k: &[u8; 256], text: &[u8], i: usize) -> Group
-    requires { (i + 4 ≤ length text.now) × (k.now ≡ values) }
-    ensures { result ≡ group_at text.now i }
-{
-    let c = text[i + 2];
-    let d = text[i + 3];
-    base64text::grouped(
-        value(k, text[i]),
-        value(k, text[i + 1]),
-        value(k, c),
-        value(k, d),
-        c,
-        d,
-    )
+    scan.finished()
 }
 
 // The fields of the message that a response in base64 stands for. Nothing of it is written anywhere.
-pub fn measure(text: &[u8]) -> Fields
+#[tactic(auto, using(crate::proofs::Scans::measuring))]
+pub fn measure(text: &[u8]) -> Option<Lengths>
     ensures { result ≡ measured text.now }
 {
-    let k = base64text::values();
-    let mut s = Scan::started();
-    let mut i: usize = 0;
-    while 4 <= text.len() - i {
-        s = s.with_group(group_at(&k, text, i));
-        i += 4;
+    let values = Values::new();
+    let (groups, _) = text.as_chunks::<4>();
+    let mut scan = Scan::started();
+    for [a, b, c, d] in groups {
+        if let Some(group) = values.group_of(*a, *b, *c, *d) {
+            scan = scan.with_group(group)?;
+        }
     }
-    s.finished()
+    scan.finished()
 }
 
 // Whether octets are UTF-8 without NUL.
+#[tactic(auto, using(crate::proofs::Scans::checking))]
 fn is_safe(bytes: &[u8]) -> bool
     ensures { result ≡ safe bytes.now }
 {
     let mut need = Need::start();
-    let mut i: usize = 0;
-    while i < bytes.len() {
-        need = need.follow(bytes[i]);
-        i += 1;
+    for x in bytes {
+        let Some(next) = need.follow(*x) else {
+            return false;
+        };
+        need = next;
     }
     need.is_met()
 }
@@ -105,26 +76,18 @@ fn are_fit(authzid: &[u8], authcid: &[u8], password: &[u8]) -> bool
     ensures { result ≡ fit authzid.now authcid.now password.now }
 {
     is_safe(authzid)
-        & (is_safe(authcid) & (authcid.len() != 0))
-        & (is_safe(password) & (password.len() != 0))
+        && (is_safe(authcid) && !authcid.is_empty())
+        && (is_safe(password) && !password.is_empty())
 }
 
-// Whether m octets hold three fields of these lengths and two NUL.
-fn has_room(a: usize, c: usize, p: usize, m: usize) -> bool
-    ensures { result ≡ leb (a + (c + p + 2)) m }
+// What three fields of these lengths and two NUL leave of m octets; none where they do not fit.
+fn room_left(a: usize, c: usize, p: usize, m: usize) -> Option<usize>
+    ensures { IsSome result ↔ (a + (c + p + 2) ≤ m) }
 {
-    if m < a {
-        return false;
-    }
-    let m = m - a;
-    if m < c {
-        return false;
-    }
-    let m = m - c;
-    if m < p {
-        return false;
-    }
-    2 <= m - p
+    m.checked_sub(a)?
+        .checked_sub(c)?
+        .checked_sub(p)?
+        .checked_sub(2)
 }
 
 // Writes the message of three fields to the start of out, and gives its length.
@@ -137,23 +100,29 @@ fn fill(authzid: &[u8], authcid: &[u8], password: &[u8], out: &mut [u8]) -> usiz
     let second = first + 1 + authcid.len();
     let end = second + 1 + password.len();
     octets::write(authzid, out, 0);
-    octets::write(b"\x00", out, first);
+    octets::write(b"\0", out, first);
     octets::write(authcid, out, first + 1);
-    octets::write(b"\x00", out, second);
+    octets::write(b"\0", out, second);
     octets::write(password, out, second + 1);
     end
 }
 
 // Writes the message of three fields to the start of out. Where it is not written, out is left as it is.
-pub fn write(authzid: &[u8], authcid: &[u8], password: &[u8], out: &mut [u8]) -> Written
+#[tactic(auto, unfolding(crate::specs::Message::writing, crate::specs::Message::written_into))]
+pub fn write(
+    authzid: &[u8],
+    authcid: &[u8],
+    password: &[u8],
+    out: &mut [u8],
+) -> Result<usize, WriteError>
     ensures { (result ≡ writing authzid.now authcid.now password.now (length out.old))
         × (out.new ≡ written_into authzid.now authcid.now password.now out.old) }
 {
     if !are_fit(authzid, authcid, password) {
-        return Written::Unfit;
+        return Err(WriteError::Unfit);
     }
-    if !has_room(authzid.len(), authcid.len(), password.len(), out.len()) {
-        return Written::Short;
+    if room_left(authzid.len(), authcid.len(), password.len(), out.len()).is_none() {
+        return Err(WriteError::Short);
     }
-    Written::Length(fill(authzid, authcid, password, out))
+    Ok(fill(authzid, authcid, password, out))
 }

@@ -13,12 +13,11 @@ use Rattle.profile.specs.Texts.{events, reply, words, challenge_prefix, is_chall
 use Rattle.profile.specs.Numbers.{profile_number, profile_of, verdict_number, verdict_of, refusal_number}
 use Rattle.profile.specs.declared.Profile.{Profile}
 use Rattle.profile.specs.declared.Profile.TheVariants.{Smtp, Pop3}
-use Rattle.profile.specs.declared.ListedProfile.TheVariants as ListedProfiles
+use Rattle.std.specs.Prelude.{Result, Ok, Err}
 use Rattle.profile.specs.declared.Reply.{Reply}
 use Rattle.profile.specs.declared.Reply.TheVariants as Replies
 use Rattle.profile.specs.declared.numbers.Verdict.{Verdict}
 use Rattle.profile.specs.declared.numbers.Verdict.TheVariants as Verdicts
-use Rattle.profile.specs.declared.numbers.ListedVerdict.TheVariants as ListedVerdicts
 use Rattle.profile.specs.declared.numbers.Refusal.{Refusal}
 use Rattle.profile.specs.declared.numbers.Refusal.TheVariants as Refusals
 
@@ -65,11 +64,11 @@ reply-length Smtp r = leb-true _ _ (each (λ x. leb (length (reply Smtp x)) 64) 
 reply-length Pop3 r = leb-true _ _ (each (λ x. leb (length (reply Pop3 x)) 64) (unfold reply words after every in refl) r)
 
 -- a profile and a verdict are told by their numbers, and have no other
-pub profile-known : (p : Profile) → profile_of (profile_number p) ≡ ListedProfiles.Known p
+pub profile-known : (p : Profile) → profile_of (profile_number p) ≡ Ok p
 profile-known Smtp = refl
 profile-known Pop3 = refl
 
-pub verdict-known : (v : Verdict) → verdict_of (verdict_number v) ≡ ListedVerdicts.Known v
+pub verdict-known : (v : Verdict) → verdict_of (verdict_number v) ≡ Ok v
 verdict-known Verdicts.Challenge = refl
 verdict-known Verdicts.Success = refl
 verdict-known Verdicts.Rejected = refl
@@ -77,10 +76,10 @@ verdict-known Verdicts.Temporary = refl
 verdict-known Verdicts.Transition = refl
 verdict-known Verdicts.Weak = refl
 
-pub profile-unlisted : (n : ℕ) → ((p : Profile) → n ≡ profile_number p → ⊥) → profile_of n ≡ ListedProfiles.Unlisted
+pub profile-unlisted : (n : ℕ) → ((p : Profile) → n ≡ profile_number p → ⊥) → profile_of n ≡ Err Refusals.NotListed
 profile-unlisted n h = rw (ne_eqb n 0 (h Smtp), ne_eqb n 1 (h Pop3))
 
-pub verdict-unlisted : (n : ℕ) → ((v : Verdict) → n ≡ verdict_number v → ⊥) → verdict_of n ≡ ListedVerdicts.Unlisted
+pub verdict-unlisted : (n : ℕ) → ((v : Verdict) → n ≡ verdict_number v → ⊥) → verdict_of n ≡ Err Refusals.NotListed
 verdict-unlisted n h =
     rw (ne_eqb n 0 (h Verdicts.Challenge), ne_eqb n 1 (h Verdicts.Success), ne_eqb n 2 (h Verdicts.Rejected), ne_eqb n 3 (h Verdicts.Temporary), ne_eqb n 4 (h Verdicts.Transition), ne_eqb n 5 (h Verdicts.Weak))
 

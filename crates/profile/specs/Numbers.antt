@@ -1,13 +1,9 @@
 -- The numbers by which a host in C speaks with the server, each set out once.
-use Rattle.std.specs.Prelude.{cond, ℕ, eqb}
+use Rattle.std.specs.Prelude.{cond, ℕ, eqb, Result, Ok, Err}
 use Rattle.profile.specs.declared.Profile.{Profile}
 use Rattle.profile.specs.declared.Profile.TheVariants.{Smtp, Pop3}
-use Rattle.profile.specs.declared.ListedProfile.{ListedProfile}
-use Rattle.profile.specs.declared.ListedProfile.TheVariants as ListedProfiles
 use Rattle.profile.specs.declared.numbers.Verdict.{Verdict}
 use Rattle.profile.specs.declared.numbers.Verdict.TheVariants.{Challenge, Success, Rejected, Temporary, Transition, Weak}
-use Rattle.profile.specs.declared.numbers.ListedVerdict.{ListedVerdict}
-use Rattle.profile.specs.declared.numbers.ListedVerdict.TheVariants as ListedVerdicts
 use Rattle.profile.specs.declared.numbers.Refusal.{Refusal}
 use Rattle.profile.specs.declared.numbers.Refusal.TheVariants.{ShortBuffer, NoConnection, Waiting, NoTicket, NotListed, Full, Exhausted, BadName, NamePresent, TableFull, Sealed, NotTaken}
 use Rattle.profile.specs.declared.numbers.Kind.{Kind}
@@ -20,11 +16,11 @@ abbrev pub profile_number : Profile → ℕ
 profile_number Smtp = 0
 profile_number Pop3 = 1
 
-abbrev pub profile_of : ℕ → ListedProfile
+abbrev pub profile_of : ℕ → Result Profile Refusal
 profile_of n =
-    cond (eqb n (profile_number Smtp)) (ListedProfiles.Known Smtp)
-    (cond (eqb n (profile_number Pop3)) (ListedProfiles.Known Pop3)
-    ListedProfiles.Unlisted)
+    cond (eqb n (profile_number Smtp)) (Ok Smtp)
+    (cond (eqb n (profile_number Pop3)) (Ok Pop3)
+    (Err NotListed))
 
 -- "Verdicts: challenge ..; success with a name ..; rejected, temporary, transition, weak", in this order from 0
 abbrev pub verdict_number : Verdict → ℕ
@@ -35,15 +31,15 @@ verdict_number Temporary = 3
 verdict_number Transition = 4
 verdict_number Weak = 5
 
-abbrev pub verdict_of : ℕ → ListedVerdict
+abbrev pub verdict_of : ℕ → Result Verdict Refusal
 verdict_of n =
-    cond (eqb n (verdict_number Challenge)) (ListedVerdicts.Known Challenge)
-    (cond (eqb n (verdict_number Success)) (ListedVerdicts.Known Success)
-    (cond (eqb n (verdict_number Rejected)) (ListedVerdicts.Known Rejected)
-    (cond (eqb n (verdict_number Temporary)) (ListedVerdicts.Known Temporary)
-    (cond (eqb n (verdict_number Transition)) (ListedVerdicts.Known Transition)
-    (cond (eqb n (verdict_number Weak)) (ListedVerdicts.Known Weak)
-    ListedVerdicts.Unlisted)))))
+    cond (eqb n (verdict_number Challenge)) (Ok Challenge)
+    (cond (eqb n (verdict_number Success)) (Ok Success)
+    (cond (eqb n (verdict_number Rejected)) (Ok Rejected)
+    (cond (eqb n (verdict_number Temporary)) (Ok Temporary)
+    (cond (eqb n (verdict_number Transition)) (Ok Transition)
+    (cond (eqb n (verdict_number Weak)) (Ok Weak)
+    (Err NotListed))))))
 
 -- "No. | Given exactly when"; 0, which is no refusal's number, tells that a call was not refused
 abbrev pub refusal_number : Refusal → ℕ

@@ -7,26 +7,20 @@ ghost use Rattle.profile.specs.Limits.{command_limit, mail_limit, response_limit
 ghost use Rattle.profile.specs.Numbers.{profile_number, profile_of};
 ghost use Rattle.profile.specs.Texts.{crlf, reply, challenge_prefix};
 
-use octets::Encoded;
-
 pub mod numbers;
 mod texts;
 
-#[derive(Clone, Copy)]
+use numbers::Refusal;
+use std::fmt;
+
+#[derive(Clone, Copy, Debug, PartialEq, Eq)]
 pub enum Profile {
     Smtp,
     Pop3,
 }
 
-// A profile by its number from outside.
-#[derive(Clone, Copy)]
-pub enum ListedProfile {
-    Known(Profile),
-    Unlisted,
-}
-
 // The events that have a text of their own.
-#[derive(Clone, Copy)]
+#[derive(Clone, Copy, Debug, PartialEq, Eq)]
 pub enum Reply {
     Success,
     Transition,
@@ -66,28 +60,6 @@ impl Profile {
         Profile::Pop3
     }
 
-    // The profile of a number; any number may be asked.
-    pub fn of(number: u64) -> ListedProfile
-        ensures { result ≡ profile_of number }
-    {
-        if number == 0 {
-            return ListedProfile::Known(Profile::smtp());
-        }
-        if number == 1 {
-            return ListedProfile::Known(Profile::pop3());
-        }
-        ListedProfile::Unlisted
-    }
-
-    pub fn number(self) -> u64
-        ensures { result ≡ profile_number self }
-    {
-        match self {
-            Profile::Smtp => 0,
-            Profile::Pop3 => 1,
-        }
-    }
-
     pub fn command_limit(self) -> usize
         ensures { result ≡ command_limit self }
     {
@@ -113,28 +85,68 @@ impl Profile {
     }
 
     // Writes the reply to an event, with CRLF, to the start of out. Where it does not fit, out is left as it is.
-    pub fn say(self, event: Reply, out: &mut [u8]) -> Encoded
+    pub fn say(self, event: Reply, out: &mut [u8]) -> Option<usize>
         ensures { (result ≡ encoded (reply self event) (length out.old) 0) × (out.new ≡ written out.old 0 (reply self event)) }
     {
+        let text = match self {
+            Profile::Smtp => texts::smtp(event),
+            Profile::Pop3 => texts::pop3(event),
+        };
+        octets::write(text, out, 0)
+    }
+
+    // What a challenge begins with; its base64 and CRLF follow.
+    pub fn challenge_prefix(self) -> &'static [u8]
+        ensures { result.now ≡ challenge_prefix self }
+    {
         match self {
-            Profile::Smtp => texts::smtp(event, out),
-            Profile::Pop3 => texts::pop3(event, out),
+            Profile::Smtp => b"334 ",
+            Profile::Pop3 => b"+ ",
         }
     }
 
-    // Writes what a challenge begins with to the start of out; its base64 and CRLF follow.
-    pub fn begin_challenge(self, out: &mut [u8]) -> Encoded
+    // Writes what a challenge begins with to the start of out.
+    pub fn begin_challenge(self, out: &mut [u8]) -> Option<usize>
         ensures { (result ≡ encoded (challenge_prefix self) (length out.old) 0) × (out.new ≡ written out.old 0 (challenge_prefix self)) }
     {
-        match self {
-            Profile::Smtp => octets::write(b"334 ", out, 0),
-            Profile::Pop3 => octets::write(b"+ ", out, 0),
+        octets::write(self.challenge_prefix(), out, 0)
+    }
+}
+
+impl TryFrom<u64> for Profile {
+    type Error = Refusal;
+
+    ghost try_from_gives = { λ n r. r ≡ profile_of n };
+
+    // The profile of a number; any number may be asked.
+    fn try_from(number: u64) -> Result<Profile, Refusal> {
+        match number {
+            0 => Ok(Profile::Smtp),
+            1 => Ok(Profile::Pop3),
+            _ => Err(Refusal::NotListed),
         }
     }
 }
 
+impl fmt::Display for Profile {
+    fn fmt<W: fmt::Write>(&self, f: &mut fmt::Formatter<W>) -> fmt::Result {
+        f.write_str(match self {
+            Profile::Smtp => "smtp",
+            Profile::Pop3 => "pop3",
+        })
+    }
+}
+
+impl From<Profile> for u64 {
+    ghost from_gives = { λ p n. n ≡ profile_number p };
+
+    fn from(profile: Profile) -> u64 {
+        profile as u64
+    }
+}
+
 // Writes the CRLF that follows every reply into out from index at on. Where it does not fit, out is left as it is.
-pub fn end_line(out: &mut [u8], at: usize) -> Encoded
+pub fn end_line(out: &mut [u8], at: usize) -> Option<usize>
     ensures { (result ≡ encoded crlf (length out.old) at) × (out.new ≡ written out.old at crlf) }
 {
     octets::write(b"\r\n", out, at)

@@ -2,8 +2,10 @@
 ghost use Rattle.std.specs.Prelude.{◌≡◌};
 ghost use Rattle.profile.specs.Numbers.{verdict_of, verdict_number, refusal_number, kind_number, identity_number};
 
+use std::fmt;
+
 // What the password service says of a ticket (document 01: verdict).
-#[derive(Clone, Copy)]
+#[derive(Clone, Copy, Debug, PartialEq, Eq)]
 pub enum Verdict {
     Challenge,
     Success,
@@ -13,17 +15,10 @@ pub enum Verdict {
     Weak,
 }
 
-// A verdict by its number from outside.
-#[derive(Clone, Copy)]
-pub enum ListedVerdict {
-    Known(Verdict),
-    Unlisted,
-}
-
-// Why a call is refused.
-#[derive(Clone, Copy)]
+// Why a call is refused (document 01: No.).
+#[derive(Clone, Copy, Debug, PartialEq, Eq)]
 pub enum Refusal {
-    ShortBuffer,
+    ShortBuffer = 1,
     NoConnection,
     Waiting,
     NoTicket,
@@ -34,11 +29,11 @@ pub enum Refusal {
     NamePresent,
     TableFull,
     Sealed,
-    NotTaken,
+    NotTaken = 20,
 }
 
 // What a line is answered with (document 01: passed on, a question, a reply).
-#[derive(Clone, Copy)]
+#[derive(Clone, Copy, Debug, PartialEq, Eq)]
 pub enum Kind {
     Forward,
     Query,
@@ -46,7 +41,7 @@ pub enum Kind {
 }
 
 // The identity to relay with a line that is passed on: it is no MAIL; "<>"; none; an address.
-#[derive(Clone, Copy)]
+#[derive(Clone, Copy, Debug, PartialEq, Eq)]
 pub enum Identity {
     NoMail,
     Null,
@@ -54,78 +49,66 @@ pub enum Identity {
     Address,
 }
 
-impl Verdict {
+impl TryFrom<u64> for Verdict {
+    type Error = Refusal;
+
+    ghost try_from_gives = { λ n r. r ≡ verdict_of n };
+
     // The verdict of a number; any number may be asked.
-    pub fn of(number: u64) -> ListedVerdict
-        ensures { result ≡ verdict_of number }
-    {
+    fn try_from(number: u64) -> Result<Verdict, Refusal> {
         match number {
-            0 => ListedVerdict::Known(Verdict::Challenge),
-            1 => ListedVerdict::Known(Verdict::Success),
-            2 => ListedVerdict::Known(Verdict::Rejected),
-            3 => ListedVerdict::Known(Verdict::Temporary),
-            4 => ListedVerdict::Known(Verdict::Transition),
-            5 => ListedVerdict::Known(Verdict::Weak),
-            _ => ListedVerdict::Unlisted,
-        }
-    }
-
-    pub fn number(self) -> u64
-        ensures { result ≡ verdict_number self }
-    {
-        match self {
-            Verdict::Challenge => 0,
-            Verdict::Success => 1,
-            Verdict::Rejected => 2,
-            Verdict::Temporary => 3,
-            Verdict::Transition => 4,
-            Verdict::Weak => 5,
+            0 => Ok(Verdict::Challenge),
+            1 => Ok(Verdict::Success),
+            2 => Ok(Verdict::Rejected),
+            3 => Ok(Verdict::Temporary),
+            4 => Ok(Verdict::Transition),
+            5 => Ok(Verdict::Weak),
+            _ => Err(Refusal::NotListed),
         }
     }
 }
 
-impl Refusal {
-    pub fn number(self) -> u64
-        ensures { result ≡ refusal_number self }
-    {
-        match self {
-            Refusal::ShortBuffer => 1,
-            Refusal::NoConnection => 2,
-            Refusal::Waiting => 3,
-            Refusal::NoTicket => 4,
-            Refusal::NotListed => 5,
-            Refusal::Full => 6,
-            Refusal::Exhausted => 7,
-            Refusal::BadName => 8,
-            Refusal::NamePresent => 9,
-            Refusal::TableFull => 10,
-            Refusal::Sealed => 11,
-            Refusal::NotTaken => 20,
-        }
+impl fmt::Display for Verdict {
+    fn fmt<W: fmt::Write>(&self, f: &mut fmt::Formatter<W>) -> fmt::Result {
+        f.write_str(match self {
+            Verdict::Challenge => "challenge",
+            Verdict::Success => "success",
+            Verdict::Rejected => "rejected",
+            Verdict::Temporary => "temporary",
+            Verdict::Transition => "transition",
+            Verdict::Weak => "weak",
+        })
     }
 }
 
-impl Kind {
-    pub fn number(self) -> u64
-        ensures { result ≡ kind_number self }
-    {
-        match self {
-            Kind::Forward => 0,
-            Kind::Query => 1,
-            Kind::Answered => 2,
-        }
+impl From<Verdict> for u64 {
+    ghost from_gives = { λ v n. n ≡ verdict_number v };
+
+    fn from(verdict: Verdict) -> u64 {
+        verdict as u64
     }
 }
 
-impl Identity {
-    pub fn number(self) -> u64
-        ensures { result ≡ identity_number self }
-    {
-        match self {
-            Identity::NoMail => 0,
-            Identity::Null => 1,
-            Identity::Absent => 2,
-            Identity::Address => 3,
-        }
+impl From<Refusal> for u64 {
+    ghost from_gives = { λ r n. n ≡ refusal_number r };
+
+    fn from(refusal: Refusal) -> u64 {
+        refusal as u64
+    }
+}
+
+impl From<Kind> for u64 {
+    ghost from_gives = { λ k n. n ≡ kind_number k };
+
+    fn from(kind: Kind) -> u64 {
+        kind as u64
+    }
+}
+
+impl From<Identity> for u64 {
+    ghost from_gives = { λ i n. n ≡ identity_number i };
+
+    fn from(identity: Identity) -> u64 {
+        identity as u64
     }
 }

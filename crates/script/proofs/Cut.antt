@@ -1,36 +1,32 @@
 -- What a script line says when octets are cut off its end. Assumes nothing.
-use mathlib.Core.Path.{◌≡◌, refl, sym, ◌∙◌, ap}
-use mathlib.Core.Bool.{Bool, true, false, cond, ◌||◌, and-true, false≢true}
+use mathlib.Core.Path.{◌≡◌, refl, sym, ◌∙◌}
+use mathlib.Core.Bool.{Bool, true, false, not, cond, ◌&&◌, ◌||◌, false≢true}
 use mathlib.Core.List.{List, [], ◌∷◌, ◌++◌, append-nil}
-use Prim.Native.Nat.{ℕ, zero, suc, ◌+◌, ◌-◌, ◌*◌, ◌%◌, ◌<◌, ◌≤◌}
-use Prim.Native.String.{String, len}
+use Prim.Native.Nat.{ℕ, zero, suc, ◌+◌, ◌-◌, ◌*◌, ◌<◌, ◌≤◌}
 use native.Mathlib.Nat.{not-suc-le-zero}
 use native.Mathlib.Omega.{arith}
-use borrow.Author.Tests.{lt-leb, eqb-false}
+use Rattle.std.proofs.Common.{rules}
+use Rattle.std.proofs.lemmas.Bool.Decides.{nat_tests}
+use borrow.Author.Tests.{eqb-false}
 use lib.Dec.{eqb}
 use lib.ListN.{length, length-append, length-drop}
-use Rattle.octets.specs.Ascii.{codes, ascii, is_digit, space}
-use Rattle.octets.specs.Lists.{holds, every, same, before, after}
-use Rattle.octets.proofs.Cases.{both, split, picked, below}
+use Rattle.std.specs.Bool.{beq}
+use Rattle.std.specs.Prelude.{Option, Some, None, option_and_then}
+use Rattle.octets.specs.Ascii.{space}
+use Rattle.octets.specs.Lists.{holds, every, before, after}
+use Rattle.octets.proofs.Cases.{split, picked, below}
 use Rattle.octets.proofs.Words.{same-lengths, after-drop}
 use Rattle.octets.proofs.Every.{every_append}
-use Rattle.script.specs.declared.word.Word.TheVariants as Words
-use Rattle.script.specs.Command.{numbered, hex_text, fitting, digits_of, arguments, call}
+use Rattle.script.specs.Command.{hex_text, fitting, digits_of, arguments, call, openings, opening}
 use Rattle.script.specs.Hex.{hexdig}
-use Rattle.script.specs.Kept.{beyond, none}
-use Rattle.script.specs.Number.{value_from, most, leading_zero, digits_from, number}
-use Rattle.script.specs.Word.{bare_word_of, word_of, takes_text}
+use Rattle.script.specs.Kept.{is_odd, beyond, none}
+use Rattle.script.specs.Number.{value_from, digits_from, number}
+use Rattle.script.specs.Texts.{found}
+use Rattle.script.specs.Word.{words, word_of, takes_text}
 use Rattle.script.specs.declared.kept.Rest.{Rest}
-use Rattle.script.specs.declared.number.Number.{Number}
-use Rattle.script.specs.declared.number.Number.TheVariants.{Value, Malformed}
 use Rattle.script.specs.declared.word.Word.{Word}
 use Rattle.script.specs.declared.command.Command.{Command}
-use Rattle.script.specs.declared.command.Command.TheVariants.{Unreadable}
-use Rattle.script.proofs.Decimal.{digit-range, value_grows}
-
-pub length-codes : (s : String) (n i : ℕ) → length (codes s n i) ≡ n
-length-codes s zero i = refl
-length-codes s (suc n) i = ap suc (length-codes s n (suc i))
+use Rattle.script.proofs.Decimal.{value_grows, no-number, digits-at}
 
 -- b times ten, k times over
 abbrev tens : ℕ → ℕ → ℕ
@@ -44,40 +40,38 @@ value-tens (suc k) [] b n h e = absurd (not-suc-le-zero h)
 value-tens (suc k) (x ∷ l) b n h e = value-tens k l (b * 10) (n * 10 + (x - 0x30)) (omega arith) (omega arith)
 
 -- no number has more than twenty digits
-leads : (x : ℕ) (l : List ℕ) → 20 ≤ length l → leading_zero (x ∷ l) ≡ eqb x 0x30
-leads x [] h = absurd (omega arith)
-leads x (y ∷ l) h = refl
+too_many-from : (n : ℕ) (l : List ℕ) → 1 ≤ n → 20 ≤ length l → digits_from n l ≡ None
+too_many-from n l h k = no-number n l (omega (arith, value-tens 20 l 1 n k h))
 
-digit-first : (x : ℕ) (l : List ℕ) → every is_digit (x ∷ l) ≡ true → is_digit x ≡ true
-unfolding every
-digit-first x l e = (both (is_digit x) (every is_digit l) e).0
+first-digit : (x : ℕ) (l : List ℕ) → 20 ≤ length l → (x ≡ 0x30 → ⊥) → digits_from 0 (x ∷ l) ≡ None
+first-digit x l h e =
+    let d = digits-at 0 (x ∷ l) 0 (omega arith) in
+    let g = too_many-from (0 * 10 + (x - 0x30)) l in
+    grind arith
 
-large : (x : ℕ) (l : List ℕ) → 20 ≤ length l → (x ≡ 0x30 → ⊥) → (b : Bool) → every is_digit (x ∷ l) ≡ b → digits_from 0 (x ∷ l) ≡ Malformed
-unfolding digits_from value_from
-large x l h e false f = rw f
-large x l h e true f =
-    let d = digit-range x (digit-first x l f) in
-    let o : 1 ≤ 0 * 10 + (x - 0x30) = omega (arith, e) in
-    let z : most < value_from (0 * 10 + (x - 0x30)) l = omega (arith, value-tens 20 l 1 (0 * 10 + (x - 0x30)) h o) in
-    rw (f, lt-leb _ _ z)
-
-pub too_many : (l : List ℕ) → 20 < length l → number l ≡ Malformed
+pub too_many : (l : List ℕ) → 20 < length l → number l ≡ None
 unfolding number
 too_many [] h = absurd (omega arith)
-too_many (x ∷ l) h =
-    rw (leads x l (omega arith))
-    (split (eqb x 0x30) (λ e. rw e) (λ e. rw e (large x l (omega arith) (eqb-false x 0x30 e) (every is_digit (x ∷ l)) refl)))
+too_many (x ∷ []) h = absurd (omega arith)
+too_many (x ∷ y ∷ l) h = split (eqb x 0x30) (λ e. rw e) (λ e. rw e (first-digit x (y ∷ l) (omega arith) (eqb-false x 0x30 e)))
 
--- and no word more than ten octets
-module _ (w : List ℕ) (h : 10 < length w) where
-  no_word : (k : String) → len k < 11 → same w (ascii k) ≡ false
-  no_word k f = same-lengths w (ascii k) (λ e. omega (arith, e, length-codes k (len k) 0))
+-- and no text of a table more octets than the longest
+abbrev AtMost : {A : Type 0} → ℕ → List (List ℕ × A) → Type 0
+AtMost n [] = Unit {0}
+AtMost n (k ∷ l) = (length k.0 ≤ n) × AtMost n l
 
-  pub too_long : word_of w ≡ Words.Unknown
-  unfolding word_of bare_word_of
-  too_long =
-      rw (no_word "line" (omega arith), no_word "hexline" (omega arith), no_word "challenge" (omega arith), no_word "success" (omega arith))
-      (rw (no_word "rejected" (omega arith), no_word "temporary" (omega arith), no_word "transition" (omega arith), no_word "weak" (omega arith), no_word "ended" (omega arith), no_word "who" (omega arith), no_word "close" (omega arith)))
+not-found : {A : Type 0} (n : ℕ) (l : List (List ℕ × A)) (t : List ℕ) → AtMost n l → n < length t → found l t ≡ None
+unfolding found
+not-found n [] t h k = refl
+not-found n (x ∷ l) t h k = rw (same-lengths t x.0 (λ e. omega arith)) (not-found n l t h.1 k)
+
+pub too_long : (w : List ℕ) → 10 < length w → word_of w ≡ None
+unfolding word_of
+too_long w h = not-found 10 words w (search rules) h
+
+pub not-opening : (t : List ℕ) → 19 < length t → opening t ≡ None
+unfolding opening
+not-opening t h = not-found 19 openings t (search rules) h
 
 -- at a space that is kept
 module _ (x : ℕ) where
@@ -109,42 +103,29 @@ module _ (x : ℕ) where
       go true h ih = absurd (false≢true (sym h))
       go false h ih = omega (arith, ih h)
 
+-- whether a sum is odd
+pub odd-sum : (m n : ℕ) → is_odd (m + n) ≡ not (beq (is_odd m) (is_odd n))
+odd-sum m n = grind (arith, nat_tests)
+
+turned : (a b c : Bool) → (a && beq b c) ≡ ((a && true) && beq false (not (beq c b)))
+turned a b c = grind arith
+
 -- the arguments l of a word, of which v is cut off
 module _ (v : List ℕ) where
   hex-cut : (t : List ℕ) → hex_text t (beyond v) ≡ hex_text (t ++ v) none
   unfolding hex_text every
-  hex-cut t =
-      let z : (length t + length v % 2) % 2 ≡ (length (t ++ v) + 0) % 2 = omega (arith, length-append t v) in
-      rw (every_append hexdig t v, z, and-true)
+  hex-cut t = rw (every_append hexdig t v, length-append t v, odd-sum (length t) (length v)) (turned (every hexdig t && every hexdig v) (is_odd (length v)) (is_odd (length t)))
 
   fitting-cut : (w : Word) (t : List ℕ) → fitting w t (beyond v) ≡ fitting w (t ++ v) none
-  fitting-cut Words.Hexline t = hex-cut t
-  fitting-cut Words.Line t = refl
-  fitting-cut (Words.Verdict d) t = refl
-  fitting-cut Words.Ended t = refl
-  fitting-cut Words.Who t = refl
-  fitting-cut Words.Close t = refl
-  fitting-cut Words.Unknown t = refl
+  fitting-cut w t = grind (arith, hex-cut)
 
-unreadable : (w : Word) (at : ℕ) (l : List ℕ) (r : Rest) → 20 < length (digits_of w l) → arguments w at l r ≡ Unreadable
+unreadable : (w : Word) (at : ℕ) (l : List ℕ) (r : Rest) → 20 < length (digits_of w l) → arguments w at l r ≡ None
 unfolding arguments
-unreadable w at l r h = rw (too_many (digits_of w l) h) (picked (λ (c : Command). c ≡ Unreadable) (fitting w (after space l) r) Unreadable Unreadable refl refl)
-
-unknown : (at : ℕ) (l : List ℕ) (r : Rest) → arguments Words.Unknown at l r ≡ Unreadable
-unfolding arguments
-unknown at l r = go (number l)
-  where
-    go : (n : Number) → numbered Words.Unknown n (at + length l + 1) ≡ Unreadable
-    go (Value n) = refl
-    go Malformed = refl
+unreadable w at l r h = rw (too_many (digits_of w l) h) (picked (λ (c : Option Command). c ≡ None) (fitting w (after space l) r) None None refl refl)
 
 -- digits that no space ends go on
 digits-longer : (w : Word) (l v : List ℕ) → (takes_text w ≡ true → holds space l ≡ false) → length l ≤ length (digits_of w (l ++ v))
-digits-longer w l v h = go (takes_text w) h
-  where
-    go : (b : Bool) → (b ≡ true → holds space l ≡ false) → length l ≤ length (cond b (before space (l ++ v)) (l ++ v))
-    go true h = before-longer space l v (h refl)
-    go false h = omega (arith, length-append l v)
+digits-longer w l v h = let b = before-longer space l v in grind (arith, length-append)
 
 module _ (w : Word) (at : ℕ) (l v : List ℕ) (h : 20 < length l) where
   endless : (takes_text w ≡ true → holds space l ≡ false) → arguments w at l (beyond v) ≡ arguments w at (l ++ v) none
@@ -168,15 +149,21 @@ module _ (u v : List ℕ) (h : 32 ≤ length u) where
   wordless e =
       let p : length u ≤ length (before space u) = rw append-nil at (before-longer space u [] e) in
       let q = before-longer space u v e in
-      rw (too_long (before space u) (omega arith), too_long (before space (u ++ v)) (omega arith)) (unknown _ _ _ ∙ sym (unknown _ _ _))
+      rw (too_long (before space u) (omega arith), too_long (before space (u ++ v)) (omega arith))
 
   worded : holds space u ≡ true → call u (beyond v) ≡ call (u ++ v) none
   unfolding call
   worded e =
       rw (before-held space u v e, after-held space u v e)
       (below 10 (length (before space u))
-      (λ k. rw (too_long (before space u) k) (unknown _ _ _ ∙ sym (unknown _ _ _)))
-      (λ k. arguments-cut (word_of (before space u)) (length (before space u) + 1) (after space u) v (rw (after-drop space u) (simp length-drop (omega arith)))))
+      (λ k. rw (too_long (before space u) k))
+      (λ k. word-cut (word_of (before space u)) (rw (after-drop space u) (simp length-drop (omega arith)))))
+    where
+      word-cut : (w : Option Word) → 20 < length (after space u)
+          → option_and_then (λ (x : Word). arguments x (length (before space u) + 1) (after space u) (beyond v)) w
+          ≡ option_and_then (λ (x : Word). arguments x (length (before space u) + 1) (after space u ++ v) none) w
+      word-cut None g = refl
+      word-cut (Some x) g = arguments-cut x (length (before space u) + 1) (after space u) v g
 
   pub call-cut : call u (beyond v) ≡ call (u ++ v) none
   call-cut = split (holds space u) worded wordless

@@ -1,4 +1,5 @@
 -- Laws that the proofs of the functions cite; Laws: what holds of the definitions.
+pub mod Texts
 pub mod Decimal
 pub mod Hexadecimal
 pub mod Parts

@@ -1,18 +1,18 @@
 // What a script line says.
-ghost use Rattle.std.specs.Prelude.{◌≡◌, ◌&&◌, ◌+◌, ◌≤◌, length, drop};
-ghost use Rattle.script.specs.Command.{command, call, arguments, made, fitting, hex_text, digits_of};
+ghost use Rattle.std.specs.Prelude.{◌≡◌, ◌+◌, ◌≤◌, length, drop};
+ghost use Rattle.script.specs.Command.{command, opening, call, arguments, made, fitting, hex_text, digits_of};
 
 use crate::hex::is_hex;
 use crate::kept::Rest;
-use crate::number::{Number, read_number};
+use crate::number::read_number;
 use crate::word::{Word, takes_text, word_of};
+use octets::reader::end;
 use profile::Profile;
 use profile::numbers::Verdict;
 
-// A call, or what is none. The text of a line, or of a verdict, is what the script line has from an index on.
-#[derive(Clone, Copy)]
+// A call. The text of a line, or of a verdict, is what the script line has from an index on.
+#[derive(Clone, Copy, Debug, PartialEq, Eq)]
 pub enum Command {
-    Unreadable,
     Open {
         profile: Profile,
         protected: bool,
@@ -41,73 +41,63 @@ pub enum Command {
     },
 }
 
-// What a script line says, of which the rest is not kept.
-pub fn read(kept: &[u8], rest: Rest) -> Command
+// The call that a script line says, if it says one; the rest of the line is not kept. Two parameters, since the octets that are kept are lent.
+#[tactic(auto, unfolding(crate::specs::Command::command))]
+pub fn read(kept: &[u8], rest: Rest) -> Option<Command>
     ensures { result ≡ command kept.now rest }
 {
-    if octets::same(kept, b"open smtp protected") {
-        return Command::Open {
-            profile: Profile::Smtp,
-            protected: true,
-        };
-    }
-    if octets::same(kept, b"open smtp plain") {
-        return Command::Open {
-            profile: Profile::Smtp,
-            protected: false,
-        };
-    }
-    if octets::same(kept, b"open pop3 protected") {
-        return Command::Open {
-            profile: Profile::Pop3,
-            protected: true,
-        };
-    }
-    if octets::same(kept, b"open pop3 plain") {
-        return Command::Open {
-            profile: Profile::Pop3,
-            protected: false,
-        };
-    }
-    call(kept, rest)
+    opening(kept).or_else(|| call(kept, rest))
+}
+
+// A line with the word open.
+#[tactic(auto, using(crate::proofs::Texts::told_opening))]
+fn opening(kept: &[u8]) -> Option<Command>
+    ensures { result ≡ opening kept.now }
+{
+    let (profile, protected) = match kept {
+        b"open smtp protected" => (Profile::Smtp, true),
+        b"open smtp plain" => (Profile::Smtp, false),
+        b"open pop3 protected" => (Profile::Pop3, true),
+        b"open pop3 plain" => (Profile::Pop3, false),
+        _ => return None,
+    };
+    Some(Command::Open { profile, protected })
 }
 
 // A word, a space and its arguments.
-fn call(kept: &[u8], rest: Rest) -> Command
+#[tactic(auto, using(crate::proofs::Parts::parts))]
+fn call(kept: &[u8], rest: Rest) -> Option<Command>
     ensures { result ≡ call kept.now rest }
 {
     let to = octets::find(kept, 0, b' ');
-    arguments(word_of(octets::part(kept, 0, to)), kept, to + 1, rest)
+    let word = word_of(octets::part(kept, 0, to))?;
+    arguments(word, kept, to + 1, rest)
 }
 
 // The arguments of a word, from an index on.
-fn arguments(word: Word, kept: &[u8], at: usize, rest: Rest) -> Command
+#[tactic(auto, using(crate::proofs::Parts::parts))]
+fn arguments(word: Word, kept: &[u8], at: usize, rest: Rest) -> Option<Command>
     requires { at ≤ length kept.now + 1 }
     ensures { result ≡ arguments word at (drop at kept.now) rest }
 {
     let to = digits_end(word, kept, at);
-    let number = read_number(octets::part(kept, at, to));
-    if !fits(word, octets::part(kept, to + 1, kept.len()), rest) {
-        return Command::Unreadable;
+    let n = read_number(octets::part(kept, at, to))?;
+    let from = to + 1;
+    if !fits(word, octets::part(kept, from, kept.len()), rest) {
+        return None;
     }
-    match number {
-        Number::Value(n) => made(word, n, to + 1),
-        Number::Malformed => Command::Unreadable,
-    }
+    Some(made(word, n, from))
 }
 
 // Where the number ends: at a space if a text may follow, and at the line's end.
 fn digits_end(word: Word, kept: &[u8], at: usize) -> usize
-    requires { at ≤ length kept.now + 1 }
     ensures { result ≡ at + length (digits_of word (drop at kept.now)) }
 {
     if takes_text(word) {
-        return octets::find(kept, at, b' ');
+        octets::find(kept, at, b' ')
+    } else {
+        end(kept, at)
     }
-    if kept.len() < at {
-        return at;
-    }
-    kept.len()
 }
 
 // Whether a word may have such a text.
@@ -116,20 +106,16 @@ fn fits(word: Word, text: &[u8], rest: Rest) -> bool
 {
     match word {
         Word::Hexline => is_hex_text(text, rest),
-        Word::Line => true,
-        Word::Verdict(_) => true,
-        Word::Ended => true,
-        Word::Who => true,
-        Word::Close => true,
-        Word::Unknown => true,
+        _ => true,
     }
 }
 
 // Whether a text is pairs of hexadecimal digits.
+#[tactic(auto, unfolding(crate::specs::Command::hex_text))]
 fn is_hex_text(text: &[u8], rest: Rest) -> bool
     ensures { result ≡ hex_text text.now rest }
 {
-    is_hex(text) & rest.digits & ((text.len() % 2 + rest.parity % 2) % 2 == 0)
+    is_hex(text) && rest.digits && rest.odd == (text.len() % 2 == 1)
 }
 
 // The call of a word with a number and a text from an index on.
@@ -153,6 +139,5 @@ fn made(word: Word, n: u64, from: usize) -> Command
         Word::Ended => Command::Ended { connection: n },
         Word::Who => Command::Who { connection: n },
         Word::Close => Command::Close { connection: n },
-        Word::Unknown => Command::Unreadable,
     }
 }

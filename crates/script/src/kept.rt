@@ -5,27 +5,29 @@ ghost use Rattle.script.specs.Kept.{none, extended, started, added};
 
 use crate::hex::is_hex;
 
-// Octets that are not kept: whether they are hexadecimal digits alone, and their number modulo 2.
-#[derive(Clone, Copy)]
+// Octets that are not kept: whether they are hexadecimal digits alone, and whether their number is odd.
+#[derive(Clone, Copy, Debug, PartialEq, Eq)]
 pub struct Rest {
     pub digits: bool,
-    pub parity: usize,
+    pub odd: bool,
 }
 
-// A line: how many octets of it the buffer holds, and the rest.
-#[derive(Clone, Copy)]
+// A line: how many octets of it the buffer holds, and the rest. The buffer is lent at each step, since this crate has no heap.
+#[derive(Clone, Copy, Debug, PartialEq, Eq)]
 pub struct Kept {
     pub length: usize,
     pub rest: Rest,
 }
 
 impl Rest {
+    // No octets: they are digits alone, which a derived Default would deny.
+    #[tactic(auto, unfolding(octets::specs::Lists::every))]
     pub fn none() -> Rest
         ensures { result ≡ none }
     {
         Rest {
             digits: true,
-            parity: 0,
+            odd: false,
         }
     }
 
@@ -34,8 +36,8 @@ impl Rest {
         ensures { result ≡ extended self more.now }
     {
         Rest {
-            digits: self.digits & is_hex(more),
-            parity: (self.parity % 2 + more.len() % 2) % 2,
+            digits: self.digits && is_hex(more),
+            odd: self.odd != (more.len() % 2 == 1),
         }
     }
 }
@@ -55,24 +57,12 @@ impl Kept {
     pub fn added(self, more: &[u8], buffer: &mut [u8]) -> Kept
         ensures { (result ≡ added self more.now (length buffer.old)) × (buffer.new ≡ written buffer.old self.length (take (length buffer.old - self.length) more.now)) }
     {
-        let at = self.length;
-        let rest = self.rest;
-        let room = space(buffer, at);
-        let fits = octets::part(more, 0, room);
-        octets::write(fits, buffer, at);
+        let room = buffer.len().saturating_sub(self.length);
+        let (fits, over) = more.split_at(room.min(more.len()));
+        octets::write(fits, buffer, self.length);
         Kept {
-            length: at + fits.len(),
-            rest: rest.extended(octets::part(more, room, more.len())),
+            length: self.length + fits.len(),
+            rest: self.rest.extended(over),
         }
     }
-}
-
-// How many octets a buffer has from an index on.
-fn space(buffer: &[u8], at: usize) -> usize
-    ensures { result ≡ length buffer.now - at }
-{
-    if buffer.len() < at {
-        return 0;
-    }
-    buffer.len() - at
 }

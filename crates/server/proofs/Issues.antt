@@ -1,4 +1,6 @@
 -- The ticket that a session waits on after a step, and the next ticket then. Assumes nothing.
+use Rattle.std.specs.Prelude as Rust
+use Rattle.std.specs.Prelude.{Some, None, Result, Ok, Err}
 use mathlib.Core.Path.{◌≡◌, refl, sym, ap, ◌∙◌}
 use mathlib.Core.Bool.{Bool, true, false, not, ◌&&◌, false≢true, true≢false}
 use mathlib.Core.List.{List}
@@ -58,7 +60,7 @@ stands-query w (Answers.Reply r) e = refl
 stands-query w Answers.EmptyChallenge e = refl
 stands-query w Answers.Challenge e = refl
 
-pub line-ticket : (s : Session) (v : View) (o : Offer) (t : ℕ) → is_refused (after_line s v o t).answer ≡ false
+pub line-ticket : (s : Session) (v : View) (o : Rust.Option Offer) (t : ℕ) → is_refused (after_line s v o t).answer ≡ false
     → phase_ticket (after_line s v o t).session.phase ≡ query_ticket (after_line s v o t).answer
 line-ticket s v o t e =
     phase-standing (after_line s v o t).session.phase ∙ ap standing_ticket (line-stands s v o t) ∙ stands-query (standing s.phase) (after_line s v o t).answer e
@@ -87,7 +89,7 @@ measures-issues v l t (Answers.Reply e) m = tt
 measures-issues v l t Answers.EmptyChallenge m = tt
 measures-issues v l t Answers.Challenge m = tt
 
-pub line-issues : (l : List ℕ) (s : Session) (o : Offer) (t : ℕ) → Issues t (after_line s (view s l) o t).answer
+pub line-issues : (l : List ℕ) (s : Session) (o : Rust.Option Offer) (t : ℕ) → Issues t (after_line s (view s l) o t).answer
 line-issues l s o t = measures-issues (view s l) l t (after_line s (view s l) o t).answer (line-measures l s o t)
 
 heard-issues : (t : ℕ) (a : Answer) → is_heard a ≡ true → Issues t a

@@ -1,5 +1,7 @@
 -- What a call that is not refused does to a server: one case for each call, with what was found on the way. Laws of calls are by these cases.
 -- Assumes nothing.
+use Rattle.std.specs.Prelude as Rust
+use Rattle.std.specs.Prelude.{Ok, Err}
 use mathlib.Core.Path.{◌≡◌, refl}
 use mathlib.Core.Bool.{Bool, true, false, cond, ◌&&◌}
 use mathlib.Core.List.{List}
@@ -10,11 +12,8 @@ use lib.ListN.{length}
 use borrow.Author.Tests.{ltb-true}
 use Rattle.lines.specs.Mechanism.{mechanism, padded}
 use Rattle.profile.specs.Numbers.{profile_of, verdict_of}
-use Rattle.profile.specs.declared.ListedProfile.{ListedProfile}
-use Rattle.profile.specs.declared.ListedProfile.TheVariants as ListedProfiles
+use Rattle.profile.specs.declared.numbers.Refusal.{Refusal}
 use Rattle.profile.specs.declared.Profile.{Profile}
-use Rattle.profile.specs.declared.numbers.ListedVerdict.{ListedVerdict}
-use Rattle.profile.specs.declared.numbers.ListedVerdict.TheVariants as ListedVerdicts
 use Rattle.profile.specs.declared.numbers.Refusal.TheVariants as Refusals
 use Rattle.profile.specs.declared.numbers.Verdict.{Verdict}
 use Rattle.session.specs.Limits.{unissued}
@@ -48,7 +47,7 @@ pub data Moves (s : Server) : Request → Result → Server → Type 0 where
       → Moves s (Requests.opens k b) (opened s.header.connection) (with_connection s (entered s.header p (is_yes b)))
   steps : (n : ℕ) (l : List ℕ) (c : Connection) → found (is_numbered n) s.slots ≡ some c → is_refused (line_step s c l).answer ≡ false
       → Moves s (Requests.line n l) (line_gives c l (line_step s c l)) (line_leaves s c l)
-  judges : (t k : ℕ) (d : List ℕ) (c : Connection) (v : Verdict) → verdict_of k ≡ ListedVerdicts.Known v → found (is_waiting t) s.slots ≡ some c
+  judges : (t k : ℕ) (d : List ℕ) (c : Connection) (v : Verdict) → verdict_of k ≡ Ok v → found (is_waiting t) s.slots ≡ some c
       → is_refused (after_verdict c.session t v d).answer ≡ false
       → Moves s (Requests.verdict t k d) (verdict_gives c d (after_verdict c.session t v d)) (verdict_leaves s c t (after_verdict c.session t v d))
   ends : (n : ℕ) (c : Connection) → found (is_numbered n) s.slots ≡ some c
@@ -94,9 +93,9 @@ module _ (s : Server) where
       go true false true ec false ed false ee = tt
       go true false true ec false ed true ee = adds n f p ec ed (ltb-true (length s.mechanisms) most_mechanisms ee)
 
-  moved_open : (k b : ℕ) (p : ListedProfile) → Moved (Requests.opens k b) (opens_as s p b)
-  moved_open k b ListedProfiles.Unlisted = tt
-  moved_open k b (ListedProfiles.Known p) = go (is_yes_or_no b) (any_free s.slots) refl (eqb s.header.connection unissued) refl
+  moved_open : (k b : ℕ) (p : Rust.Result Profile Refusal) → Moved (Requests.opens k b) (opens_as s p b)
+  moved_open k b (Err r) = tt
+  moved_open k b (Ok p) = go (is_yes_or_no b) (any_free s.slots) refl (eqb s.header.connection unissued) refl
     where
       go : (x y : Bool) → any_free s.slots ≡ y → (z : Bool) → eqb s.header.connection unissued ≡ z
           → Moved (Requests.opens k b)
@@ -114,11 +113,11 @@ module _ (s : Server) where
   moved-line n l none e = tt
   moved-line n l (some c) e = unrefused_settled (Moves s (Requests.line n l)) (line_step s c l).answer _ _ (steps n l c e)
 
-  moved-verdict : (t k : ℕ) (d : List ℕ) (v : ListedVerdict) → verdict_of k ≡ v → (x : Option Connection) → found (is_waiting t) s.slots ≡ x
+  moved-verdict : (t k : ℕ) (d : List ℕ) (v : Rust.Result Verdict Refusal) → verdict_of k ≡ v → (x : Option Connection) → found (is_waiting t) s.slots ≡ x
       → Moved (Requests.verdict t k d) (verdict_found s t v d x)
   moved-verdict t k d v ev none e = tt
-  moved-verdict t k d ListedVerdicts.Unlisted ev (some c) e = tt
-  moved-verdict t k d (ListedVerdicts.Known v) ev (some c) e =
+  moved-verdict t k d (Err r) ev (some c) e = tt
+  moved-verdict t k d (Ok v) ev (some c) e =
       unrefused_settled (Moves s (Requests.verdict t k d)) (after_verdict c.session t v d).answer _ _ (judges t k d c v ev e)
 
   moved-mail : (n : ℕ) (x : Option Connection) → found (is_numbered n) s.slots ≡ x → Moved (Requests.mail_ended n) (mail_found s x)

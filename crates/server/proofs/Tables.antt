@@ -1,51 +1,41 @@
 -- The table of mechanisms, record by record. Assumes nothing.
-use mathlib.Core.Path.{◌≡◌}
-use mathlib.Core.Bool.{true, false}
+use Rattle.std.specs.Prelude.{Option, Some}
+use mathlib.Core.Path.{◌≡◌, refl, sym, ap, ◌∙◌}
+use mathlib.Core.Bool.{Bool, true, false, cond}
 use mathlib.Core.List.{List, [], ◌∷◌}
-use Prim.Native.Nat.{ℕ, ◌+◌, ◌<◌, ◌≤◌}
-use native.Mathlib.Numerals.{add-one}
-use native.Mathlib.Omega.{arith}
-use lib.ListN.{length, get_or, drop, length-take, drop_of_length-le}
-use lib.Seq.{drop-cons, get_or-take}
+use Prim.Native.Nat.{ℕ}
+use Rattle.std.proofs.iter.Yields.{fronts}
+use Rattle.std.proofs.lemmas.Iterator.{YieldsList-from_slice}
+use Rattle.std.proofs.lemmas.Iterator.Search.{find_from_yields_List}
+use Rattle.std.specs.Fn.{CalledAt}
+use Rattle.std.specs.Iterator.{FindsItem}
+use Rattle.std.specs.List.{find}
+use Rattle.std.specs.Slice.Iter.{iter_rest}
+use Rattle.std.specs.declared.slice.Iter.{Iter}
+use denote.Ref.{Bor}
+use denote.Param.Members.{Mut}
+use Rattle.std.specs.Option.{option_map}
 use Rattle.octets.specs.Lists.{same}
-use Rattle.session.specs.declared.view.Offer.TheVariants.{Absent, Present}
+use Rattle.session.specs.declared.view.Offer.{Offer}
 use Rattle.server.specs.declared.Mechanism.{Mechanism}
-use Rattle.server.specs.declared.Mechanisms.{Mechanisms}
-use Rattle.server.specs.Mechanisms.{listed, offered}
+use Rattle.server.specs.Mechanisms.{offered}
 
--- what stands where a table has no record
-abbrev pub unset : Mechanism
-unset = record { name = []; client_first = false; needs_protection = false }
+abbrev offer_of : Mechanism → Offer
+offer_of m = record { client_first = m.client_first; needs_protection = m.needs_protection }
 
--- how many are listed, of a table of eight
-module _ (t : Mechanisms) (e : length t.records ≡ 8) where
-  pub some-listed : t.count < 8 → t.count ≡ length (listed t)
-  some-listed h = simp length-take (omega arith)
+offered_is : (l : List Mechanism) (n : List ℕ) → offered l n ≡ option_map offer_of (find (λ m. same m.name n) l)
+unfolding offered
+offered_is [] n = refl
+offered_is (m ∷ l) n = go (same m.name n) (offered_is l n)
+  where
+    go : (b : Bool) → offered l n ≡ option_map offer_of (find (λ m. same m.name n) l)
+        → cond b (Some (offer_of m)) (offered l n) ≡ option_map offer_of (cond b (Some m) (find (λ m. same m.name n) l))
+    go true e = refl
+    go false e = e
 
-  pub all_listed : 8 ≤ t.count → 8 ≡ length (listed t)
-  all_listed h = simp length-take (omega arith)
-
-module _ (t : Mechanisms) (i : ℕ) where
-  -- the record at an index, and the others from there on
-  next : i < length (listed t) → drop i (listed t) ≡ get_or t.records i unset ∷ drop (i + 1) (listed t)
-  next h =
-      let k : i < t.count = omega (arith, length-take t.count t.records) in
-      rw (add-one, drop-cons (listed t) i unset h, get_or-take t.count t.records i unset k)
-
-  none_left : length (listed t) ≤ i → drop i (listed t) ≡ []
-  none_left h = drop_of_length-le (listed t) {i = i} h
-
-  -- a turn of the search for a name
-  module _ (n : List ℕ) where
-    pub offer-here : i < length (listed t) → same (get_or t.records i unset).name n ≡ true
-        → Present (get_or t.records i unset).client_first (get_or t.records i unset).needs_protection ≡ offered (drop i (listed t)) n
-    unfolding offered
-    offer-here h e = rw (next h, e)
-
-    pub offer-later : i < length (listed t) → same (get_or t.records i unset).name n ≡ false → offered (drop (i + 1) (listed t)) n ≡ offered (drop i (listed t)) n
-    unfolding offered
-    offer-later h e = rw (next h, e)
-
-    pub offer-none : length (listed t) ≤ i → Absent ≡ offered (drop i (listed t)) n
-    unfolding offered
-    offer-none h = rw (none_left h)
+-- what t.iter().find(|m| m.is_named(n)) says
+pub offered_found : {F : Type 0} {s : Iter Mechanism} {p : F} {g : Mut F (Bor (Bor Mechanism) × Unit {0}) Bool} (t : List Mechanism) (n : List ℕ) (u : Iter Mechanism) (r : Option (Bor Mechanism))
+    → FindsItem fronts g s p r u → iter_rest s ≡ t → ((m : Bor Mechanism) (b : Bool) (q : F) → CalledAt g p m b q → (q ≡ p) × (b ≡ same (m.now).name n))
+    → option_map offer_of (option_map (λ m. m.now) r) ≡ offered t n
+offered_found {p = p} t n u r h e k =
+    ap (option_map offer_of) (find_from_yields_List (λ (m : Mechanism). same m.name n) u p r h (YieldsList-from_slice t e) k) ∙ sym (offered_is t n)

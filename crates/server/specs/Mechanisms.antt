@@ -1,8 +1,8 @@
 -- The mechanisms of a server.
+use Rattle.std.specs.Prelude.{Option, Some, None}
 use Rattle.std.specs.Prelude.{Bool, cond, List, [], ◌∷◌, ℕ, take}
 use Rattle.octets.specs.Lists.{same}
 use Rattle.session.specs.declared.view.Offer.{Offer}
-use Rattle.session.specs.declared.view.Offer.TheVariants.{Absent, Present}
 use Rattle.server.specs.declared.Mechanism.{Mechanism}
 use Rattle.server.specs.declared.Mechanisms.{Mechanisms}
 
@@ -11,10 +11,10 @@ abbrev pub listed : Mechanisms → List Mechanism
 listed t = take t.count t.records
 
 -- what a server has of the mechanism with this name, in twenty octets
-unfoldable pub offered : List Mechanism → List ℕ → Offer
-offered [] n = Absent
-offered (m ∷ ms) n = cond (same m.name n) (Present m.client_first m.needs_protection) (offered ms n)
+unfoldable pub offered : List Mechanism → List ℕ → Option Offer
+offered [] n = None
+offered (m ∷ ms) n = cond (same m.name n) (Some (record { client_first = m.client_first; needs_protection = m.needs_protection })) (offered ms n)
 
-abbrev pub is_present : Offer → Bool
-is_present Absent = Bool.false
-is_present (Present f g) = Bool.true
+abbrev pub is_present : Option Offer → Bool
+is_present None = Bool.false
+is_present (Some o) = Bool.true

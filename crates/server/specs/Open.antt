@@ -1,10 +1,10 @@
 -- "Open: profile 0 SMTP or 1 POP3, protected or not; gives the connection's number. The lowest free place is taken, and a freed place is taken
 -- again." Refusals: 20; 5; 6; 7.
+use Rattle.std.specs.Prelude.{Result, Ok, Err}
 use Rattle.std.specs.Prelude.{Bool, true, cond, ℕ, ◌+◌, eqb}
 use Rattle.std.proofs.Math.Option.{some}
 use Rattle.profile.specs.Numbers.{profile_of}
-use Rattle.profile.specs.declared.ListedProfile.{ListedProfile}
-use Rattle.profile.specs.declared.ListedProfile.TheVariants.{Known, Unlisted}
+use Rattle.profile.specs.declared.numbers.Refusal.{Refusal}
 use Rattle.profile.specs.declared.Profile.{Profile}
 use Rattle.profile.specs.declared.numbers.Refusal.TheVariants.{NotListed, Full, Exhausted}
 use Rattle.session.specs.Limits.{unissued}
@@ -34,9 +34,9 @@ enters s p b =
     (refuses Full)
 
 -- 5: "profile .. is not one listed here, or a yes-or-no is not 0 or 1"
-abbrev pub opens_as : Server → ListedProfile → ℕ → Outcome
-opens_as s Unlisted b = refuses NotListed
-opens_as s (Known p) b = cond (is_yes_or_no b) (enters s p (is_yes b)) (refuses NotListed)
+abbrev pub opens_as : Server → Result Profile Refusal → ℕ → Outcome
+opens_as s (Err r) b = refuses NotListed
+opens_as s (Ok p) b = cond (is_yes_or_no b) (enters s p (is_yes b)) (refuses NotListed)
 
 -- p: the profile's number; b: whether the connection is protected
 unfoldable pub on_open : Server → ℕ → ℕ → Outcome

@@ -1,9 +1,11 @@
 -- "Verdict, for a ticket, gives a reply." Refusals: 1; 20; 4; 5.
+use Rattle.std.specs.Prelude as Rust
+use Rattle.std.specs.Prelude.{Ok, Err}
 use Rattle.std.specs.Prelude.{List, [], ℕ}
 use Rattle.std.proofs.Math.Option.{Option, none, some}
 use Rattle.profile.specs.Numbers.{verdict_of}
-use Rattle.profile.specs.declared.numbers.ListedVerdict.{ListedVerdict}
-use Rattle.profile.specs.declared.numbers.ListedVerdict.TheVariants.{Known, Unlisted}
+use Rattle.profile.specs.declared.numbers.Verdict.{Verdict}
+use Rattle.profile.specs.declared.numbers.Refusal.{Refusal}
 use Rattle.profile.specs.declared.numbers.Refusal.TheVariants.{NoTicket, NotListed}
 use Rattle.session.specs.Answer.{heard}
 use Rattle.session.specs.Verdict.{after_verdict}
@@ -26,12 +28,12 @@ abbrev pub judged : Server → Connection → ℕ → List ℕ → Stepped → O
 judged s c t d x = settled x.answer (verdict_gives c d x) (verdict_leaves s c t x)
 
 -- 5: "profile or verdict is not one listed here"
-abbrev pub verdict_listed : Server → Connection → ℕ → List ℕ → ListedVerdict → Outcome
-verdict_listed s c t d Unlisted = refuses NotListed
-verdict_listed s c t d (Known v) = judged s c t d (after_verdict c.session t v d)
+abbrev pub verdict_listed : Server → Connection → ℕ → List ℕ → Rust.Result Verdict Refusal → Outcome
+verdict_listed s c t d (Err r) = refuses NotListed
+verdict_listed s c t d (Ok v) = judged s c t d (after_verdict c.session t v d)
 
 -- 4: "no open connection waits on this ticket"
-abbrev pub verdict_found : Server → ℕ → ListedVerdict → List ℕ → Option Connection → Outcome
+abbrev pub verdict_found : Server → ℕ → Rust.Result Verdict Refusal → List ℕ → Option Connection → Outcome
 verdict_found s t v d none = refuses NoTicket
 verdict_found s t v d (some c) = verdict_listed s c t d v
 

@@ -15,7 +15,7 @@ mod table;
 pub const MOST_MECHANISMS: usize = 8;
 
 // What a server has once: the next connection's number, the next ticket, and whether it is sealed (document 01: adding has ended).
-#[derive(Clone, Copy)]
+#[derive(Clone, Copy, Debug, PartialEq, Eq)]
 pub struct Header {
     pub connection: u64,
     pub ticket: u64,
@@ -23,22 +23,22 @@ pub struct Header {
 }
 
 // A mechanism: its name in twenty octets, padded with NUL, whether the client speaks first, whether it needs a protected connection.
-#[derive(Clone, Copy)]
+#[derive(Clone, Copy, Debug, PartialEq, Eq)]
 pub struct Mechanism {
     pub name: [u8; LONGEST_MECHANISM],
     pub client_first: bool,
     pub needs_protection: bool,
 }
 
-// The table of mechanisms: the first `count` records.
-#[derive(Clone, Copy)]
+// The table of mechanisms: the first `count` records. An array and a count, since the library has no heap and a server's memory is fixed.
+#[derive(Clone, Copy, Debug, PartialEq, Eq)]
 pub struct Mechanisms {
     pub records: [Mechanism; MOST_MECHANISMS],
     pub count: usize,
 }
 
 // An open connection: its number and its session.
-#[derive(Clone, Copy)]
+#[derive(Clone, Copy, Debug, PartialEq, Eq)]
 pub struct Connection {
     pub session: Session,
     pub number: u64,

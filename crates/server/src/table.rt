@@ -1,12 +1,12 @@
 // The mechanisms of a server.
-ghost use Rattle.std.specs.Prelude.{◌≡◌, false, ◌≤◌, length, replicate};
+ghost use Rattle.std.specs.Prelude.{◌≡◌, false, replicate};
 ghost use Rattle.octets.specs.Lists.{same};
 ghost use Rattle.lines.specs.Mechanism.{longest_mechanism, padded};
 ghost use Rattle.server.specs.Limits.{most_mechanisms};
 ghost use Rattle.server.specs.Mechanisms.{listed, offered};
 
 use crate::{MOST_MECHANISMS, Mechanism, Mechanisms};
-use lines::mechanism::{LONGEST_MECHANISM, name_of, same_name};
+use lines::mechanism::{LONGEST_MECHANISM, name_of};
 use session::view::Offer;
 
 impl Mechanism {
@@ -14,19 +14,18 @@ impl Mechanism {
     pub fn new(name: &[u8], client_first: bool, needs_protection: bool) -> Mechanism
         ensures { result ≡ record { name = padded name.now; client_first = client_first; needs_protection = needs_protection } }
     {
-        let kept = name_of(name);
         Mechanism {
-            name: kept,
+            name: name_of(name),
             client_first,
             needs_protection,
         }
     }
 
+    #[tactic(auto, using(octets::proofs::Chains::same_is))]
     pub fn is_named(self, name: [u8; LONGEST_MECHANISM]) -> bool
         ensures { result ≡ same self.name name }
     {
-        let kept = self.name;
-        same_name(kept, name)
+        self.name == name
     }
 }
 
@@ -46,33 +45,23 @@ impl Mechanisms {
         }
     }
 
-    // How many mechanisms there are. The table has eight, so a count above lists them all.
-    fn len(self) -> usize
-        ensures { (result ≡ length (listed self)) × (result ≤ most_mechanisms) }
+    // The mechanisms of the table. It has eight records, so a count above lists them all.
+    fn listed(&self) -> &[Mechanism]
+        ensures { result.now ≡ listed self.now }
     {
-        if self.count < MOST_MECHANISMS {
-            self.count
-        } else {
-            MOST_MECHANISMS
-        }
+        &self.records[..self.count.min(MOST_MECHANISMS)]
     }
 
     // What there is of the mechanism with this name.
-    pub fn offer(self, name: [u8; LONGEST_MECHANISM]) -> Offer
+    pub fn offer(self, name: [u8; LONGEST_MECHANISM]) -> Option<Offer>
         ensures { result ≡ offered (listed self) name }
     {
-        let end = self.len();
-        let mut i: usize = 0;
-        while i < end {
-            let m = self.records[i];
-            if m.is_named(name) {
-                return Offer::Present {
-                    client_first: m.client_first,
-                    needs_protection: m.needs_protection,
-                };
-            }
-            i += 1;
-        }
-        Offer::Absent
+        self.listed()
+            .iter()
+            .find(|m| m.is_named(name))
+            .map(|m| Offer {
+                client_first: m.client_first,
+                needs_protection: m.needs_protection,
+            })
     }
 }

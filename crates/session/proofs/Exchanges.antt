@@ -1,4 +1,5 @@
 -- What an exchange leaves as it was. Assumes nothing.
+use Rattle.std.specs.Prelude.{Option}
 use mathlib.Core.Path.{◌≡◌, refl, sym, ◌∙◌, ap}
 use mathlib.Core.Bool.{Bool, true, false, cond, ◌&&◌, ◌||◌, true≢false, false≢true}
 use mathlib.Core.List.{List}
@@ -42,7 +43,7 @@ keeps x (challenged h) = (refl, refl)
 keeps x (asked i h k f b n z w) = (refl, refl)
 
 module _ (s : Session) where
-  line_kept : (v : View) → (standing s.phase ≡ quiet → may_begin v ≡ true) → (o : Offer) (t : ℕ) → Kept s (after_line s v o t).session
+  line_kept : (v : View) → (standing s.phase ≡ quiet → may_begin v ≡ true) → (o : Option Offer) (t : ℕ) → Kept s (after_line s v o t).session
   unfolding after_line
   line_kept v x o t =
       let m = makes s t v o in

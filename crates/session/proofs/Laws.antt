@@ -1,4 +1,5 @@
 -- The laws of a session's steps. Assumes nothing.
+use Rattle.std.specs.Prelude.{Option}
 use mathlib.Core.Path.{◌≡◌, refl, ap}
 use mathlib.Core.Bool.{Bool, true, cond, not, ◌&&◌}
 use mathlib.Core.List.{List, []}
@@ -51,7 +52,7 @@ pub use Rattle.session.proofs.Exchanges.{exchange-keeps, auth-begins}
 -- a name that was kept is read back
 pub use Rattle.session.proofs.Judged.{name-kept}
 
-module _ (s : Session) (v : View) (o : Offer) (t : ℕ) where
+module _ (s : Session) (v : View) (o : Option Offer) (t : ℕ) where
   -- a session awaits a response exactly after a challenge, and waits on a ticket exactly after a query under it
   pub line-stands : standing (after_line s v o t).session.phase ≡ stands (standing s.phase) (after_line s v o t).answer
   unfolding after_line

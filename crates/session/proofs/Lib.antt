@@ -1,5 +1,5 @@
 -- What the proofs of session share, and its laws.
-pub mod Steps
+pub mod Names
 pub mod Makes
 pub mod Sound
 pub mod Within

@@ -11,6 +11,7 @@ use Rattle.mail.specs.Says.{line_says, points_to}
 use Rattle.mail.specs.declared.Mail.{Mail}
 use Rattle.mail.specs.declared.Mail.TheVariants as Mails
 use Rattle.mail.proofs.Laws.{mail-says}
+use Rattle.std.specs.Prelude.{Option, Some, None}
 use Rattle.lines.specs.Command.{command}
 use Rattle.lines.specs.declared.command.Command.{Command}
 use Rattle.lines.specs.declared.command.Command.TheVariants as Commands
@@ -42,14 +43,14 @@ told-identity (asked j u k f b m z w) i n e = cc
 
 -- and so is what the reading points to
 module _ (l : List ℕ) where
-  relayed : (b : Bool) (m : Mail) → is_mail (identity_in b m) ≡ true
+  relayed : (b : Bool) (m : Option Mail) → is_mail (identity_in b m) ≡ true
       → (identity_in b m, cond (is_address (identity_in b m)) (Xtext.octets (address_text m l)) []) ≡ relay_of b (points_to m l)
-  relayed b Mails.Malformed e = absurd (false≢true e)
-  relayed true Mails.Absent e = refl
-  relayed false Mails.Absent e = refl
-  relayed b Mails.Null e = refl
-  relayed true (Mails.Address from to n) e = refl
-  relayed false (Mails.Address from to n) e = refl
+  relayed b None e = absurd (false≢true e)
+  relayed true (Some Mails.Absent) e = refl
+  relayed false (Some Mails.Absent) e = refl
+  relayed b (Some Mails.Null) e = refl
+  relayed true (Some (Mails.Address from to n)) e = refl
+  relayed false (Some (Mails.Address from to n)) e = refl
 
   -- a reading that is passed on as a MAIL is of the line
   abbrev Pointed : View → Type 0
@@ -62,7 +63,7 @@ module _ (l : List ℕ) where
   command-pointed p Commands.Helo h b e = absurd (false≢true e)
   command-pointed p Commands.Rset h b e = absurd (false≢true e)
   command-pointed p Commands.Quit h b e = absurd (false≢true e)
-  command-pointed p (Commands.Mail m) h b e = ap (λ (x : Mail). points_to x l) h.0 ∙ mail-says l
+  command-pointed p (Commands.Mail m) h b e = ap (λ (x : Option Mail). points_to x l) h.0 ∙ mail-says l
   command-pointed p (Commands.Auth a) h b e = absurd (false≢true e)
   command-pointed p Commands.Barred h b e = absurd (false≢true e)
   command-pointed p Commands.Other h b e = absurd (false≢true e)
@@ -75,7 +76,7 @@ module _ (l : List ℕ) where
   view-pointed p (Phases.Waiting t k) b e = absurd (false≢true e)
 
   -- identity and octets of a MAIL that is passed on
-  pub line-says : (s : Session) (o : Offer) (t : ℕ) (i : Identity) (n : ℕ) → is_mail i ≡ true → (after_line s (view s l) o t).answer ≡ Answers.Forward i n
+  pub line-says : (s : Session) (o : Option Offer) (t : ℕ) (i : Identity) (n : ℕ) → is_mail i ≡ true → (after_line s (view s l) o t).answer ≡ Answers.Forward i n
       → (i, cond (is_address i) (relay_octets (view s l) l) []) ≡ relay_of (signed_in s.phase) (line_says l)
   unfolding after_line relay_octets
   line-says s o t i n h e =
@@ -86,14 +87,14 @@ module _ (l : List ℕ) where
       ∙ relayed b (mail_in (view s l)) k
       ∙ ap (relay_of b) (view-pointed s.profile s.phase b k)
 
-vouched : (b : Bool) (m : Mail) → is_vouched (identity_in b m) ≡ true → b ≡ true
+vouched : (b : Bool) (m : Option Mail) → is_vouched (identity_in b m) ≡ true → b ≡ true
 vouched true m e = refl
-vouched false Mails.Malformed e = absurd (false≢true e)
-vouched false Mails.Absent e = absurd (false≢true e)
-vouched false Mails.Null e = absurd (false≢true e)
-vouched false (Mails.Address from to n) e = absurd (false≢true e)
+vouched false None e = absurd (false≢true e)
+vouched false (Some Mails.Absent) e = absurd (false≢true e)
+vouched false (Some Mails.Null) e = absurd (false≢true e)
+vouched false (Some (Mails.Address from to n)) e = absurd (false≢true e)
 
-pub line-relays : (s : Session) (v : View) (o : Offer) (t : ℕ) (i : Identity) (n : ℕ) → is_vouched i ≡ true → (after_line s v o t).answer ≡ Answers.Forward i n
+pub line-relays : (s : Session) (v : View) (o : Option Offer) (t : ℕ) (i : Identity) (n : ℕ) → is_vouched i ≡ true → (after_line s v o t).answer ≡ Answers.Forward i n
     → signed_in s.phase ≡ true
 unfolding after_line
 line-relays s v o t i n h e = vouched (signed_in s.phase) (mail_in v) (sym (ap is_vouched (told-identity (makes s t v o) i n e)) ∙ h)

@@ -3,12 +3,11 @@ use mathlib.Core.Path.{◌≡◌, refl, sym, ◌∙◌, ap}
 use mathlib.Core.Bool.{Bool, true, false, cond, false≢true}
 use mathlib.Core.List.{List, ◌∷◌, ◌++◌}
 use Prim.Native.Nat.{ℕ}
-use native.Mathlib.Omega.{arith}
 use Rattle.octets.specs.Ascii.{ascii, space, capitals}
 use Rattle.octets.specs.Lists.{holds}
 use Rattle.base64text.specs.Base64.{valid, octets}
 use Rattle.profile.specs.declared.Profile.{Profile}
-use Rattle.mail.specs.declared.Mail.TheVariants as Mails
+use Rattle.std.specs.Prelude.{Option, None}
 use Rattle.lines.specs.Auth.{auth, name_text, initial_text}
 use Rattle.lines.specs.Command.{understood, command}
 use Rattle.lines.specs.Response.{response}
@@ -16,11 +15,10 @@ use Rattle.lines.specs.declared.verb.Verb.TheVariants as Verbs
 use Rattle.lines.specs.Alike.{Alike, auth_line, SpelledAlike}
 use Rattle.lines.specs.Alike as Alikes
 use Rattle.lines.specs.declared.auth.Auth.{Auth}
-use Rattle.lines.specs.declared.auth.Auth.TheVariants as Auths
 use Rattle.lines.specs.declared.command.Command.{Command}
 use Rattle.lines.specs.declared.command.Command.TheVariants as Commands
 use Rattle.lines.proofs.Laws.{same-response, spaced-response, same-name-text, same-command, command-line, ReadAlike, spelled-alike, Holds, command-read}
-use Rattle.session.specs.Standing.{quiet, awaits, waits, standing}
+use Rattle.session.specs.Standing.{awaits, standing}
 use Rattle.session.specs.Alike as Lines
 use Rattle.session.specs.Alike.{LinesAlike}
 use Rattle.session.specs.declared.Phase.{Phase}
@@ -31,15 +29,15 @@ use Rattle.session.specs.View.{view_in, view}
 use Rattle.session.specs.Octets.{auth_command, mail_command, mechanism_text, response_text, query_octets, relay_text}
 
 -- an AUTH line is no MAIL line
-unmailed : (p : Profile) (a x : List ℕ) → capitals a ≡ ascii "AUTH" → mail_command (command p (a ++ (space ∷ x))) ≡ Mails.Malformed
+unmailed : (p : Profile) (a x : List ℕ) → capitals a ≡ ascii "AUTH" → mail_command (command p (a ++ (space ∷ x))) ≡ None
 unmailed p a x e = rw (command-line p a x e) (go (understood p Verbs.Auth (a ++ (space ∷ x))))
   where
-    go : (b : Bool) → mail_command (cond b (Commands.Auth (auth (a ++ (space ∷ x)))) Commands.NotUnderstood) ≡ Mails.Malformed
+    go : (b : Bool) → mail_command (cond b (Commands.Auth (auth (a ++ (space ∷ x)))) Commands.NotUnderstood) ≡ None
     go true = refl
     go false = refl
 
 -- what an AUTH line's reading points to, g, is the same of two commands that are read alike if it is the same of two AUTH lines
-module _ (g : Auth → List ℕ → List ℕ) (l k : List ℕ) (z : g Auths.Malformed l ≡ g Auths.Malformed k) (e : g (auth l) l ≡ g (auth k) k) where
+module _ (g : Option Auth → List ℕ → List ℕ) (l k : List ℕ) (z : g None l ≡ g None k) (e : g (auth l) l ≡ g (auth k) k) where
   same-pointed : (p : Profile) (c : Command) → Holds p l c → Holds p k c → g (auth_command c) l ≡ g (auth_command c) k
   same-pointed p Commands.NotUnderstood x y = z
   same-pointed p Commands.Malformed x y = z
@@ -48,7 +46,7 @@ module _ (g : Auth → List ℕ → List ℕ) (l k : List ℕ) (z : g Auths.Malf
   same-pointed p Commands.Rset x y = z
   same-pointed p Commands.Quit x y = z
   same-pointed p (Commands.Mail m) x y = z
-  same-pointed p (Commands.Auth a) x y = ap (λ (b : Auth). g b l) x.0 ∙ e ∙ ap (λ (b : Auth). g b k) (sym y.0)
+  same-pointed p (Commands.Auth a) x y = ap (λ (b : Option Auth). g b l) x.0 ∙ e ∙ ap (λ (b : Option Auth). g b k) (sym y.0)
   same-pointed p Commands.Barred x y = z
   same-pointed p Commands.Other x y = z
 
@@ -62,12 +60,6 @@ pub record Seen (p : Profile) (x : Phase) (l k : List ℕ) : Type 0 where
   pub view : view_in p x l ≡ view_in p x k
   pub mechanism : mechanism_text (view_in p x l) l ≡ mechanism_text (view_in p x k) k
   pub relay : relay_text (view_in p x l) l ≡ relay_text (view_in p x k) k
-
-not-quiet : quiet ≡ awaits → ⊥
-not-quiet e = let z : ◌≡◌ {A = ℕ} 0 1 = cc in omega arith
-
-not-waiting : (t : ℕ) → waits t ≡ awaits → ⊥
-not-waiting t e = let z : ◌≡◌ {A = ℕ} 0 1 = cc in omega arith
 
 -- AUTH lines, whatever follows AUTH and a space: where they are read alike as commands and as responses, they are seen alike
 module _ (p : Profile) (a b x y : List ℕ) (e : capitals a ≡ ascii "AUTH") (f : capitals b ≡ ascii "AUTH") where
@@ -102,10 +94,10 @@ module _ (p : Profile) where
 
   responses : (x : Phase) (r q : List ℕ) → standing x ≡ awaits → Alike r q → Seen p x r q
   unfolding view_in
-  responses Phases.Idle r q e h = absurd (not-quiet e)
-  responses Phases.SignedIn r q e h = absurd (not-quiet e)
+  responses Phases.Idle r q e h = cc
+  responses Phases.SignedIn r q e h = cc
   responses (Phases.Awaiting k) r q e h = record { view = ap Views.Response (same-response p r q h); mechanism = refl; relay = refl }
-  responses (Phases.Waiting t k) r q e h = absurd (not-waiting t e)
+  responses (Phases.Waiting t k) r q e h = cc
 
 -- so lines that are alike are seen alike
 pub same_view : (s : Session) {l k : List ℕ} → LinesAlike (standing s.phase) l k → Seen s.profile s.phase l k
@@ -131,7 +123,7 @@ spelled-octets s {l} {k} h = go s.phase
     r = spelled-alike h
 
     commands : octets (initial_text (auth_command (command s.profile l)) l) ≡ octets (initial_text (auth_command (command s.profile k)) k)
-    commands = pointed (λ (a : Auth) (t : List ℕ). octets (initial_text a t)) l k refl r.octets s.profile (r.commands s.profile)
+    commands = pointed (λ (a : Option Auth) (t : List ℕ). octets (initial_text a t)) l k refl r.octets s.profile (r.commands s.profile)
 
     go : (x : Phase) → valid (response_text (view_in s.profile x l) l) ≡ true → query_octets (view_in s.profile x l) l ≡ query_octets (view_in s.profile x k) k
     go Phases.Idle v = commands

@@ -1,5 +1,6 @@
 -- A line where no exchange runs. "Length and forbidden octets are looked at first in every command": NotUnderstood, in crate lines, as are
 -- the forms of the commands (Malformed).
+use Rattle.std.specs.Prelude.{Option}
 use Rattle.std.specs.Prelude.{true, false, ℕ}
 use Rattle.profile.specs.declared.Reply.TheVariants as Replies
 use Rattle.lines.specs.declared.command.Command.{Command}
@@ -11,7 +12,7 @@ use Rattle.session.specs.Change.{says, forwards}
 use Rattle.session.specs.Auth.{on_auth}
 use Rattle.session.specs.Mail.{on_mail}
 
-unfoldable pub on_command : Session → Command → Offer → ℕ → Change
+unfoldable pub on_command : Session → Command → Option Offer → ℕ → Change
 on_command s NotUnderstood o t = says s Replies.NotUnderstood
 on_command s Malformed o t = says s Replies.Syntax
 -- "both end a transaction; EHLO marks the session greeted, HELO unmarks it; passed on"

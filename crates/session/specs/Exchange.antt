@@ -1,4 +1,5 @@
 -- Exchanges: a line whose verb is AUTH, then verdicts, and lines while one runs.
+use Rattle.std.specs.Prelude.{Option}
 use Rattle.std.specs.Prelude.{◌≡◌, Bool, true, false, List, ℕ}
 use Rattle.profile.specs.declared.numbers.Verdict.{Verdict}
 use Rattle.lines.specs.declared.command.Command.{Command}
@@ -34,7 +35,7 @@ may_begin Views.Unread = false
 -- from a session s to one in the course of an exchange or at its end, and on through further ones: where none runs, a line may begin one
 pub data Exchange (s : Session) : Session → Type 0 where
   none : Exchange s s
-  line : {u : Session} → Exchange s u → (v : View) → (standing u.phase ≡ quiet → may_begin v ≡ true) → (o : Offer) (t : ℕ)
+  line : {u : Session} → Exchange s u → (v : View) → (standing u.phase ≡ quiet → may_begin v ≡ true) → (o : Option Offer) (t : ℕ)
       → Exchange s (after_line u v o t).session
   verdict : {u : Session} → Exchange s u → (t : ℕ) (v : Verdict) (d : List ℕ) → Exchange s (after_verdict u t v d).session
 

@@ -4,49 +4,48 @@ use Rattle.base64text.specs.Base64
 use Rattle.xtext.specs.Xtext
 use Rattle.mail.specs.Mail.{address_text}
 use Rattle.mail.specs.declared.Mail.{Mail}
-use Rattle.mail.specs.declared.Mail.TheVariants as Mails
+use Rattle.std.specs.Prelude.{Option, None}
 use Rattle.lines.specs.Auth.{initial_text, name_text}
 use Rattle.lines.specs.declared.auth.Auth.{Auth}
-use Rattle.lines.specs.declared.auth.Auth.TheVariants as Auths
 use Rattle.lines.specs.declared.command.Command.{Command}
 use Rattle.lines.specs.declared.command.Command.TheVariants as Commands
 use Rattle.session.specs.declared.view.View.{View}
 use Rattle.session.specs.declared.view.View.TheVariants as Views
 
 -- the AUTH line, and the MAIL line, that a view is of; any other line counts as one that is malformed and points to nothing
-abbrev pub auth_command : Command → Auth
-auth_command Commands.NotUnderstood = Auths.Malformed
-auth_command Commands.Malformed = Auths.Malformed
-auth_command Commands.Ehlo = Auths.Malformed
-auth_command Commands.Helo = Auths.Malformed
-auth_command Commands.Rset = Auths.Malformed
-auth_command Commands.Quit = Auths.Malformed
-auth_command (Commands.Mail m) = Auths.Malformed
+abbrev pub auth_command : Command → Option Auth
+auth_command Commands.NotUnderstood = None
+auth_command Commands.Malformed = None
+auth_command Commands.Ehlo = None
+auth_command Commands.Helo = None
+auth_command Commands.Rset = None
+auth_command Commands.Quit = None
+auth_command (Commands.Mail m) = None
 auth_command (Commands.Auth a) = a
-auth_command Commands.Barred = Auths.Malformed
-auth_command Commands.Other = Auths.Malformed
+auth_command Commands.Barred = None
+auth_command Commands.Other = None
 
-abbrev pub auth_in : View → Auth
+abbrev pub auth_in : View → Option Auth
 auth_in (Views.Command c) = auth_command c
-auth_in (Views.Response r) = Auths.Malformed
-auth_in Views.Unread = Auths.Malformed
+auth_in (Views.Response r) = None
+auth_in Views.Unread = None
 
-abbrev pub mail_command : Command → Mail
-mail_command Commands.NotUnderstood = Mails.Malformed
-mail_command Commands.Malformed = Mails.Malformed
-mail_command Commands.Ehlo = Mails.Malformed
-mail_command Commands.Helo = Mails.Malformed
-mail_command Commands.Rset = Mails.Malformed
-mail_command Commands.Quit = Mails.Malformed
+abbrev pub mail_command : Command → Option Mail
+mail_command Commands.NotUnderstood = None
+mail_command Commands.Malformed = None
+mail_command Commands.Ehlo = None
+mail_command Commands.Helo = None
+mail_command Commands.Rset = None
+mail_command Commands.Quit = None
 mail_command (Commands.Mail m) = m
-mail_command (Commands.Auth a) = Mails.Malformed
-mail_command Commands.Barred = Mails.Malformed
-mail_command Commands.Other = Mails.Malformed
+mail_command (Commands.Auth a) = None
+mail_command Commands.Barred = None
+mail_command Commands.Other = None
 
-abbrev pub mail_in : View → Mail
+abbrev pub mail_in : View → Option Mail
 mail_in (Views.Command c) = mail_command c
-mail_in (Views.Response r) = Mails.Malformed
-mail_in Views.Unread = Mails.Malformed
+mail_in (Views.Response r) = None
+mail_in Views.Unread = None
 
 -- the name of the mechanism that an AUTH line asks for, in capitals
 abbrev pub mechanism_text : View → List ℕ → List ℕ

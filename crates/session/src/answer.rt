@@ -1,18 +1,16 @@
 // What a step gives: its numbers, and what the client hears.
 ghost use Rattle.std.specs.Prelude.{◌≡◌, length};
 ghost use Rattle.octets.specs.Answers.{written, encoded};
-ghost use Rattle.profile.specs.Texts.{challenge_prefix};
-ghost use Rattle.session.specs.Answer.{bit, refused_numbers, forward_numbers, query_numbers, reply_numbers, numbers, challenge, heard};
+ghost use Rattle.session.specs.Answer.{numbers, challenge, heard};
 
-use octets::Encoded;
 use profile::numbers::{Identity, Kind, Refusal};
 use profile::{Profile, Reply};
 
-// What a step gives.
+// What a step gives. A refusal is one of its cases and no Err: a refused step hands the session back as any other does, and `?` would lose it.
 // Refused: nothing changed. Forward (document 01: passed on): the identity to relay, with an address's length.
 // Query (document 01: a question): the ticket, whether it only starts an exchange, the response's length.
 // Reply: the text of an event. EmptyChallenge: a challenge of no octets. Challenge: one of the verdict's data.
-#[derive(Clone, Copy)]
+#[derive(Clone, Copy, Debug, PartialEq, Eq)]
 pub enum Answer {
     Refused(Refusal),
     Forward {
@@ -29,8 +27,9 @@ pub enum Answer {
     Challenge,
 }
 
-// An answer in numbers, each 0 where the answer has none. `length` counts the octets of a query's response, an address or a reply.
-#[derive(Clone, Copy)]
+// An answer in numbers, each 0 where the answer has none, as the calls from C pass them (document 01 sets out each). `length` counts the octets of a
+// query's response, an address or a reply.
+#[derive(Clone, Copy, Debug, Default, PartialEq, Eq)]
 pub struct Numbers {
     pub refusal: u64,
     pub kind: u64,
@@ -40,82 +39,14 @@ pub struct Numbers {
     pub identity: u64,
 }
 
-fn of_refusal(refusal: Refusal) -> Numbers
-    ensures { result ≡ refused_numbers refusal }
-{
-    Numbers {
-        refusal: refusal.number(),
-        kind: 0,
-        ticket: 0,
-        starts: 0,
-        length: 0,
-        identity: 0,
-    }
-}
-
-fn of_forward(identity: Identity, length: usize) -> Numbers
-    ensures { result ≡ forward_numbers identity length }
-{
-    Numbers {
-        refusal: 0,
-        kind: Kind::Forward.number(),
-        ticket: 0,
-        starts: 0,
-        length: length as u64,
-        identity: identity.number(),
-    }
-}
-
-fn of_query(ticket: u64, starts: bool, length: usize) -> Numbers
-    ensures { result ≡ query_numbers ticket starts length }
-{
-    Numbers {
-        refusal: 0,
-        kind: Kind::Query.number(),
-        ticket,
-        starts: bit(starts),
-        length: length as u64,
-        identity: 0,
-    }
-}
-
-fn of_reply(length: usize) -> Numbers
-    ensures { result ≡ reply_numbers length }
-{
-    Numbers {
-        refusal: 0,
-        kind: Kind::Answered.number(),
-        ticket: 0,
-        starts: 0,
-        length: length as u64,
-        identity: 0,
-    }
-}
-
-fn bit(yes: bool) -> u64
-    ensures { result ≡ bit yes }
-{
-    if yes { 1 } else { 0 }
-}
-
-// The octets that a challenge begins with.
-fn prefix_octets(profile: Profile) -> usize
-    ensures { result ≡ length (challenge_prefix profile) }
-{
-    match profile {
-        Profile::Smtp => 4,
-        Profile::Pop3 => 2,
-    }
-}
-
 // Writes a challenge to the start of out. Its length is known first, so that out is left as it is where it does not fit.
-fn write_challenge(profile: Profile, bytes: &[u8], out: &mut [u8]) -> Encoded
+fn write_challenge(profile: Profile, bytes: &[u8], out: &mut [u8]) -> Option<usize>
     ensures { (result ≡ encoded (challenge profile bytes.now) (length out.old) 0) × (out.new ≡ written out.old 0 (challenge profile bytes.now)) }
 {
-    let from = prefix_octets(profile);
-    let to = from + (bytes.len() + 2) / 3 * 4;
+    let from = profile.challenge_prefix().len();
+    let to = from + bytes.len().div_ceil(3) * 4;
     if out.len() < to + 2 {
-        return Encoded::Short;
+        return None;
     }
     profile.begin_challenge(out);
     base64text::encode(bytes, out, from);
@@ -125,13 +56,12 @@ fn write_challenge(profile: Profile, bytes: &[u8], out: &mut [u8]) -> Encoded
 impl Answer {
     // Writes what the client hears to the start of out: nothing, the text of an event, or a challenge, whose octets are the verdict's data.
     // Where it does not fit, out is left as it is.
-    pub fn say(self, profile: Profile, bytes: &[u8], out: &mut [u8]) -> Encoded
+    #[tactic(auto, using(octets::proofs::Answers::nothing_written), unfolding(crate::specs::Answer::heard))]
+    pub fn say(self, profile: Profile, bytes: &[u8], out: &mut [u8]) -> Option<usize>
         ensures { (result ≡ encoded (heard profile bytes.now self) (length out.old) 0) × (out.new ≡ written out.old 0 (heard profile bytes.now self)) }
     {
         match self {
-            Answer::Refused(_) => octets::write(b"", out, 0),
-            Answer::Forward { .. } => octets::write(b"", out, 0),
-            Answer::Query { .. } => octets::write(b"", out, 0),
+            Answer::Refused(_) | Answer::Forward { .. } | Answer::Query { .. } => Some(0),
             Answer::Reply(event) => profile.say(event, out),
             Answer::EmptyChallenge => write_challenge(profile, b"", out),
             Answer::Challenge => write_challenge(profile, bytes, out),
@@ -143,16 +73,32 @@ impl Answer {
         ensures { result ≡ numbers self heard }
     {
         match self {
-            Answer::Refused(refusal) => of_refusal(refusal),
-            Answer::Forward { identity, length } => of_forward(identity, length),
+            Answer::Refused(refusal) => Numbers {
+                refusal: u64::from(refusal),
+                ..Numbers::default()
+            },
+            Answer::Forward { identity, length } => Numbers {
+                kind: u64::from(Kind::Forward),
+                length: length as u64,
+                identity: u64::from(identity),
+                ..Numbers::default()
+            },
             Answer::Query {
                 ticket,
                 starts,
                 length,
-            } => of_query(ticket, starts, length),
-            Answer::Reply(_) => of_reply(heard),
-            Answer::EmptyChallenge => of_reply(heard),
-            Answer::Challenge => of_reply(heard),
+            } => Numbers {
+                kind: u64::from(Kind::Query),
+                ticket,
+                starts: u64::from(starts),
+                length: length as u64,
+                ..Numbers::default()
+            },
+            Answer::Reply(_) | Answer::EmptyChallenge | Answer::Challenge => Numbers {
+                kind: u64::from(Kind::Answered),
+                length: heard as u64,
+                ..Numbers::default()
+            },
         }
     }
 }

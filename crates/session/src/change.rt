@@ -8,7 +8,7 @@ use profile::Reply;
 use profile::numbers::{Identity, Refusal};
 
 // What a step makes of a session, but for its name, and what it gives.
-#[derive(Clone, Copy)]
+#[derive(Clone, Copy, Debug, PartialEq, Eq)]
 pub(crate) struct Change {
     pub greeted: bool,
     pub transaction: bool,
@@ -33,8 +33,7 @@ impl Session {
     pub(crate) fn stays(self, answer: Answer) -> Change
         ensures { result ≡ stays self answer }
     {
-        let phase = self.phase;
-        self.moves(phase, answer)
+        self.moves(self.phase, answer)
     }
 
     pub(crate) fn refuses(self, refusal: Refusal) -> Change
@@ -60,15 +59,14 @@ impl Session {
     pub(crate) fn forwards(self, greeted: bool, transaction: bool) -> Change
         ensures { result ≡ forwards self greeted transaction }
     {
-        let phase = self.phase;
+        let answer = Answer::Forward {
+            identity: Identity::NoMail,
+            length: 0,
+        };
         Change {
             greeted,
             transaction,
-            phase,
-            answer: Answer::Forward {
-                identity: Identity::NoMail,
-                length: 0,
-            },
+            ..self.stays(answer)
         }
     }
 
@@ -76,16 +74,11 @@ impl Session {
     pub(crate) fn changed(self, change: Change) -> Session
         ensures { result ≡ changed self change }
     {
-        let name = self.name;
-        let profile = self.profile;
-        let phase = change.phase;
         Session {
-            name,
-            profile,
-            protected: self.protected,
             greeted: change.greeted,
             transaction: change.transaction,
-            phase,
+            phase: change.phase,
+            ..self
         }
     }
 
@@ -93,10 +86,9 @@ impl Session {
     pub(crate) fn stepped(self, change: Change) -> Stepped
         ensures { result ≡ stepped self change }
     {
-        let answer = change.answer;
         Stepped {
             session: self.changed(change),
-            answer,
+            answer: change.answer,
         }
     }
 }

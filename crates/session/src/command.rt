@@ -9,7 +9,8 @@ use lines::command::Command;
 use profile::Reply;
 
 impl Session {
-    pub(crate) fn on_command(self, command: Command, offer: Offer, ticket: u64) -> Change
+    #[tactic(auto, unfolding(crate::specs::Command::on_command))]
+    pub(crate) fn on_command(self, command: Command, offer: Option<Offer>, ticket: u64) -> Change
         ensures { result ≡ on_command self command offer ticket }
     {
         match command {
@@ -18,11 +19,10 @@ impl Session {
             Command::Ehlo => self.forwards(true, false),
             Command::Helo => self.forwards(false, false),
             Command::Rset => self.forwards(self.greeted, false),
-            Command::Quit => self.forwards(self.greeted, self.transaction),
             Command::Mail(mail) => self.on_mail(mail),
             Command::Auth(auth) => self.on_auth(auth, offer, ticket),
             Command::Barred => self.says(Reply::WrongMoment),
-            Command::Other => self.forwards(self.greeted, self.transaction),
+            Command::Quit | Command::Other => self.forwards(self.greeted, self.transaction),
         }
     }
 }

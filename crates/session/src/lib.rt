@@ -15,7 +15,8 @@ ghost use Rattle.session.specs.Verdict.{after_verdict};
 ghost use Rattle.session.specs.MailEnded.{after_mail};
 
 use answer::Answer;
-use octets::Encoded;
+use lines::command::read_command;
+use lines::response::read_response;
 use profile::Profile;
 use profile::numbers::{Refusal, Verdict};
 use view::{Offer, View};
@@ -32,7 +33,7 @@ pub mod verdict;
 pub mod view;
 
 // Where a session stands: at most one of signed in, awaiting a response and waiting on a ticket. `sent` counts the exchange's challenges.
-#[derive(Clone, Copy)]
+#[derive(Clone, Copy, Debug, PartialEq, Eq)]
 pub enum Phase {
     Idle,
     SignedIn,
@@ -41,7 +42,7 @@ pub enum Phase {
 }
 
 // A connection's session. The name is padded with NUL; where nobody is signed in it is NUL alone.
-#[derive(Clone, Copy)]
+#[derive(Clone, Copy, Debug, PartialEq, Eq)]
 pub struct Session {
     pub name: [u8; Session::LONGEST_NAME],
     pub profile: Profile,
@@ -52,7 +53,7 @@ pub struct Session {
 }
 
 // The next session, and the answer.
-#[derive(Clone, Copy)]
+#[derive(Clone, Copy, Debug, PartialEq, Eq)]
 pub struct Stepped {
     pub session: Session,
     pub answer: Answer,
@@ -68,7 +69,7 @@ impl Session {
     pub const LONGEST_NAME: usize = 64;
 
     // The number that is never issued.
-    pub const UNISSUED: u64 = 18446744073709551615;
+    pub const UNISSUED: u64 = u64::MAX;
 
     // The session of a connection that was just opened.
     pub fn opened(profile: Profile, protected: bool) -> Session
@@ -87,63 +88,49 @@ impl Session {
     pub fn is_signed_in(self) -> bool
         ensures { result ≡ signed_in self.phase }
     {
-        let phase = self.phase;
-        match phase {
-            Phase::Idle => false,
-            Phase::SignedIn => true,
-            Phase::Awaiting { .. } => false,
-            Phase::Waiting { .. } => false,
-        }
+        matches!(self.phase, Phase::SignedIn)
     }
 
     // Writes the name to the start of out; nothing where nobody is signed in. Where it does not fit, out is left as it is.
-    pub fn write_name(self, out: &mut [u8]) -> Encoded
+    #[tactic(auto, using(crate::proofs::Names::kept_name), unfolding(crate::specs::Session::name_of))]
+    pub fn write_name(self, out: &mut [u8]) -> Option<usize>
         ensures { (result ≡ encoded (name_of self) (length out.old) 0) × (out.new ≡ written out.old 0 (name_of self)) }
     {
-        let name = self.name;
-        octets::write(octets::part(&name, 0, octets::find(&name, 0, 0)), out, 0)
+        let end = octets::find(&self.name, 0, 0);
+        octets::write(&self.name[..end], out, 0)
     }
 
     // What the session sees of a line.
+    #[tactic(auto, unfolding(crate::specs::View::view_in))]
     pub fn read(self, line: &[u8]) -> View
         ensures { result ≡ view self line.now }
     {
-        let profile = self.profile;
-        let phase = self.phase;
-        match phase {
-            Phase::Idle => View::Command(lines::command::read_command(profile, line)),
-            Phase::SignedIn => View::Command(lines::command::read_command(profile, line)),
-            Phase::Awaiting { .. } => View::Response(lines::response::read_response(profile, line)),
+        match self.phase {
+            Phase::Idle | Phase::SignedIn => View::Command(read_command(self.profile, line)),
+            Phase::Awaiting { .. } => View::Response(read_response(self.profile, line)),
             Phase::Waiting { .. } => View::Unread,
         }
     }
 
     // A line, as the session sees it; what the server has of the mechanism that it names; the ticket that a query is issued under.
-    pub fn line(self, view: View, offer: Offer, ticket: u64) -> Stepped
+    #[tactic(auto, unfolding(crate::specs::Line::after_line))]
+    pub fn line(self, view: View, offer: Option<Offer>, ticket: u64) -> Stepped
         ensures { result ≡ after_line self view offer ticket }
     {
         self.stepped(self.on_line(view, offer, ticket))
     }
 
     // A verdict on a ticket, with its data: a challenge's octets or a name.
+    #[tactic(auto, unfolding(crate::specs::Verdict::after_verdict))]
     pub fn verdict(self, ticket: u64, verdict: Verdict, bytes: &[u8]) -> Stepped
         ensures { result ≡ after_verdict self ticket verdict bytes.now }
     {
-        let phase = self.phase;
-        match phase {
-            Phase::Idle => self.stepped(self.refuses(Refusal::NoTicket)),
-            Phase::SignedIn => self.stepped(self.refuses(Refusal::NoTicket)),
-            Phase::Awaiting { .. } => self.stepped(self.refuses(Refusal::NoTicket)),
+        match self.phase {
             Phase::Waiting {
                 ticket: issued,
                 sent,
-            } => {
-                if issued == ticket {
-                    self.on_verdict(sent, verdict, bytes)
-                } else {
-                    self.stepped(self.refuses(Refusal::NoTicket))
-                }
-            }
+            } if issued == ticket => self.on_verdict(sent, verdict, bytes),
+            _ => self.stepped(self.refuses(Refusal::NoTicket)),
         }
     }
 

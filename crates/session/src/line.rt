@@ -1,4 +1,4 @@
-// A line, by the session's phase.
+// A line, by the session's phase. The offer and the ticket are two parameters, as the public step has them.
 ghost use Rattle.std.specs.Prelude.{◌≡◌};
 ghost use Rattle.session.specs.Line.{at_rest, awaiting, on_line};
 
@@ -10,13 +10,12 @@ use profile::numbers::Refusal;
 
 impl Session {
     // Where no exchange runs.
-    fn at_rest(self, view: View, offer: Offer, ticket: u64) -> Change
+    fn at_rest(self, view: View, offer: Option<Offer>, ticket: u64) -> Change
         ensures { result ≡ at_rest self view offer ticket }
     {
         match view {
             View::Command(command) => self.on_command(command, offer, ticket),
-            View::Response(_) => self.says(Reply::Syntax),
-            View::Unread => self.says(Reply::Syntax),
+            View::Response(_) | View::Unread => self.says(Reply::Syntax),
         }
     }
 
@@ -25,19 +24,16 @@ impl Session {
         ensures { result ≡ awaiting self sent view ticket }
     {
         match view {
-            View::Command(_) => self.fails(Reply::Syntax),
             View::Response(response) => self.on_response(sent, response, ticket),
-            View::Unread => self.fails(Reply::Syntax),
+            View::Command(_) | View::Unread => self.fails(Reply::Syntax),
         }
     }
 
-    pub(crate) fn on_line(self, view: View, offer: Offer, ticket: u64) -> Change
+    pub(crate) fn on_line(self, view: View, offer: Option<Offer>, ticket: u64) -> Change
         ensures { result ≡ on_line self.phase self view offer ticket }
     {
-        let phase = self.phase;
-        match phase {
-            Phase::Idle => self.at_rest(view, offer, ticket),
-            Phase::SignedIn => self.at_rest(view, offer, ticket),
+        match self.phase {
+            Phase::Idle | Phase::SignedIn => self.at_rest(view, offer, ticket),
             Phase::Awaiting { sent } => self.awaiting(sent, view, ticket),
             Phase::Waiting { .. } => self.refuses(Refusal::Waiting),
         }

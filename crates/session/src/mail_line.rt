@@ -28,29 +28,26 @@ impl Session {
     fn relays(self, identity: Identity, length: usize) -> Change
         ensures { result ≡ relays self identity length }
     {
-        let phase = self.phase;
-        let answer = self.relayed(identity, length);
         Change {
-            greeted: self.greeted,
             transaction: true,
-            phase,
-            answer,
+            ..self.stays(self.relayed(identity, length))
         }
     }
 
     // MAIL where no transaction is open.
-    fn begins(self, mail: Mail) -> Change
+    fn begins(self, mail: Option<Mail>) -> Change
         ensures { result ≡ begins self mail }
     {
         match mail {
-            Mail::Malformed => self.says(Reply::Syntax),
-            Mail::Absent => self.relays(Identity::Absent, 0),
-            Mail::Null => self.relays(Identity::Null, 0),
-            Mail::Address { length, .. } => self.relays(Identity::Address, length),
+            None => self.says(Reply::Syntax),
+            Some(Mail::Absent) => self.relays(Identity::Absent, 0),
+            Some(Mail::Null) => self.relays(Identity::Null, 0),
+            Some(Mail::Address { length, .. }) => self.relays(Identity::Address, length),
         }
     }
 
-    pub(crate) fn on_mail(self, mail: Mail) -> Change
+    #[tactic(auto, unfolding(crate::specs::Mail::on_mail))]
+    pub(crate) fn on_mail(self, mail: Option<Mail>) -> Change
         ensures { result ≡ on_mail self mail }
     {
         if self.transaction {

@@ -1,7 +1,5 @@
 // A verdict on the ticket that a session waits on.
 ghost use Rattle.std.specs.Prelude.{◌≡◌};
-ghost use Rattle.octets.specs.Lists.{padded_to};
-ghost use Rattle.session.specs.Limits.{longest_name};
 ghost use Rattle.session.specs.Session.{named};
 ghost use Rattle.session.specs.Verdict.{graphic, is_name, given, challenged, accepted, on_verdict};
 
@@ -15,26 +13,14 @@ use profile::numbers::{Refusal, Verdict};
 pub fn is_graphic(x: u8) -> bool
     ensures { result ≡ graphic x }
 {
-    (0x21 <= x) & (x <= 0x7E)
+    x.is_ascii_graphic()
 }
 
+#[tactic(auto, unfolding(octets::specs::Lists::one_to))]
 fn is_name(bytes: &[u8]) -> bool
     ensures { result ≡ is_name bytes.now }
 {
-    if bytes.len() < 1 {
-        return false;
-    }
-    if Session::LONGEST_NAME < bytes.len() {
-        return false;
-    }
-    let mut i: usize = 0;
-    while i < bytes.len() {
-        if !is_graphic(bytes[i]) {
-            return false;
-        }
-        i += 1;
-    }
-    true
+    (1..=Session::LONGEST_NAME).contains(&bytes.len()) && bytes.iter().all(|x| is_graphic(*x))
 }
 
 // Whether a verdict has the data that it may have.
@@ -44,20 +30,9 @@ fn has_valid_data(verdict: Verdict, bytes: &[u8]) -> bool
     match verdict {
         Verdict::Challenge => bytes.len() <= Session::LONGEST_CHALLENGE,
         Verdict::Success => is_name(bytes),
-        Verdict::Rejected => bytes.len() == 0,
-        Verdict::Temporary => bytes.len() == 0,
-        Verdict::Transition => bytes.len() == 0,
-        Verdict::Weak => bytes.len() == 0,
+        Verdict::Rejected | Verdict::Temporary | Verdict::Transition | Verdict::Weak =>
+            bytes.is_empty(),
     }
-}
-
-// A name in as many octets as the longest has.
-fn padded(name: &[u8]) -> [u8; Session::LONGEST_NAME]
-    ensures { result ≡ padded_to longest_name name.now }
-{
-    let mut kept = [0u8; Session::LONGEST_NAME];
-    octets::write(octets::part(name, 0, Session::LONGEST_NAME), &mut kept, 0);
-    kept
 }
 
 impl Session {
@@ -76,8 +51,7 @@ impl Session {
     fn named(mut self, name: &[u8]) -> Session
         ensures { result ≡ named self name.now }
     {
-        let kept = padded(name);
-        self.name = kept;
+        self.name = octets::padded_to(name);
         self
     }
 
@@ -97,6 +71,7 @@ impl Session {
         }
     }
 
+    #[tactic(auto, unfolding(crate::specs::Verdict::on_verdict))]
     pub(crate) fn on_verdict(self, sent: u8, verdict: Verdict, bytes: &[u8]) -> Stepped
         ensures { result ≡ on_verdict self sent verdict bytes.now }
     {

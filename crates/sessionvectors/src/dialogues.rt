@@ -4,11 +4,11 @@ use profile::Profile;
 use std::io;
 
 fn on_smtp(rt: &impl Print, events: &[u8]) -> io::Result<()> {
-    dialogue(rt, Profile::smtp(), true, events)
+    dialogue(rt, Profile::Smtp, true, events)
 }
 
 fn on_pop3(rt: &impl Print, events: &[u8]) -> io::Result<()> {
-    dialogue(rt, Profile::pop3(), true, events)
+    dialogue(rt, Profile::Pop3, true, events)
 }
 
 // Document 01's example, RFC 4954's, and commands around a transaction.
@@ -47,7 +47,7 @@ pub(crate) fn checks(rt: &impl Print) -> io::Result<()> {
     )?;
     dialogue(
         rt,
-        Profile::smtp(),
+        Profile::Smtp,
         false,
         b">EHLO a|>AUTH PLAIN|>AUTH PLAIN Zm9v|>AUTH SERVER-TLS Zm9v|>AUTH SERVER-TLS|>AUTH CRAM-MD5 Zm9v|>AUTH CLIENT-ANY|>Zm9v|w|>AUTH CLIENT-ANY =|r|>AUTH CRAM-MD5|c|>Zm9v|sanna",
     )?;
@@ -78,7 +78,7 @@ pub(crate) fn spellings(rt: &impl Print) -> io::Result<()> {
     )?;
     dialogue(
         rt,
-        Profile::pop3(),
+        Profile::Pop3,
         false,
         b">AUTH plain|>AUTH plain Zm9v|>AUTH server-tls|>AUTH client-any|>|sanna",
     )
@@ -148,7 +148,7 @@ pub(crate) fn pop3(rt: &impl Print) -> io::Result<()> {
     )?;
     dialogue(
         rt,
-        Profile::pop3(),
+        Profile::Pop3,
         false,
         b">AUTH PLAIN|>AUTH CRAM-MD5|c|>|sanna|e",
     )

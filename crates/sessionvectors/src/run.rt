@@ -4,8 +4,6 @@
 // C a challenge of so many octets; o success on a ticket that was not issued, b on the one before the last.
 // e: mail ended.
 // By hand: g the session is greeted, n in a transaction; m no ticket is left, M one is.
-ghost use Rattle.std.specs.Prelude.{◌≤◌};
-
 use crate::show;
 use lines::mechanism::{name_of, same_name};
 use profile::Profile;
@@ -14,7 +12,8 @@ use session::Session;
 use session::answer::Answer;
 use session::view::{Offer, View};
 use std::io;
-use textvectors::show::{put, quoted};
+use textvectors::show::Quoted;
+use textvectors::words::rest;
 
 #[derive(Clone, Copy)]
 struct Run {
@@ -23,54 +22,37 @@ struct Run {
     next: u64,
 }
 
-fn present(client_first: bool, needs_protection: bool) -> Offer {
-    Offer::Present {
-        client_first,
-        needs_protection,
-    }
-}
+// The server of these dialogues has four mechanisms: whether the client speaks first, whether it needs protection.
+const MECHANISMS: [(&[u8], bool, bool); 4] = [
+    (b"PLAIN", true, true),
+    (b"CRAM-MD5", false, false),
+    (b"CLIENT-ANY", true, false),
+    (b"SERVER-TLS", false, true),
+];
 
-// The server of these dialogues has four mechanisms.
-fn offer(view: View, line: &[u8]) -> Offer {
+fn offer(view: View, line: &[u8]) -> Option<Offer> {
     let name = view.mechanism(line);
-    if same_name(name, name_of(b"PLAIN")) {
-        return present(true, true);
+    for (word, client_first, needs_protection) in MECHANISMS {
+        if same_name(name, name_of(word)) {
+            return Some(Offer {
+                client_first,
+                needs_protection,
+            });
+        }
     }
-    if same_name(name, name_of(b"CRAM-MD5")) {
-        return present(false, false);
-    }
-    if same_name(name, name_of(b"CLIENT-ANY")) {
-        return present(true, false);
-    }
-    if same_name(name, name_of(b"SERVER-TLS")) {
-        return present(false, true);
-    }
-    Offer::Absent
+    None
 }
 
 // A number of at most five digits that a text begins with.
 fn decimal(text: &[u8]) -> usize {
     let mut n: usize = 0;
     for x in text {
-        let x = *x;
-        if x < b'0' {
+        if !x.is_ascii_digit() || 10000 <= n {
             return n;
         }
-        if b'9' < x {
-            return n;
-        }
-        if 10000 <= n {
-            return n;
-        }
-        n = n * 10 + wide(x - b'0');
+        n = n * 10 + usize::from(*x - b'0');
     }
     n
-}
-
-fn wide(x: u8) -> usize
-    ensures { result ≤ 255 }
-{
-    x as usize
 }
 
 impl Run {
@@ -78,17 +60,11 @@ impl Run {
         let s = self.session;
         let view = s.read(line);
         let stepped = s.line(view, offer(view, line), self.next);
-        let a = stepped.answer;
-        let after = stepped.session;
-        let p = s.profile;
-        show::answer(rt, a, p, b"", view, line)?;
-        self.session = after;
-        match a {
-            Answer::Query { ticket, .. } => {
-                self.ticket = ticket;
-                self.next = std::num::wrapping_add_u64(ticket, 1);
-            }
-            _ => {}
+        show::answer(rt, stepped.answer, s.profile, b"", view, line)?;
+        self.session = stepped.session;
+        if let Answer::Query { ticket, .. } = stepped.answer {
+            self.ticket = ticket;
+            self.next = ticket.wrapping_add(1);
         }
         Ok(self)
     }
@@ -102,21 +78,14 @@ impl Run {
     ) -> io::Result<Run> {
         let s = self.session;
         let stepped = s.verdict(ticket, verdict, bytes);
-        let a = stepped.answer;
-        let after = stepped.session;
-        let p = s.profile;
-        show::answer(rt, a, p, bytes, View::Unread, b"")?;
-        self.session = after;
+        show::answer(rt, stepped.answer, s.profile, bytes, View::Unread, b"")?;
+        self.session = stepped.session;
         Ok(self)
     }
 
     fn long_line(self, rt: &impl Print, text: &[u8]) -> io::Result<Run> {
         let mut line = [b'A'; 12300];
-        octets::write(
-            octets::part(text, octets::find(text, 0, b' ') + 1, text.len()),
-            &mut line,
-            0,
-        );
+        octets::write(rest(text, 1), &mut line, 0);
         self.line(rt, octets::part(&line, 0, decimal(text)))
     }
 
@@ -151,10 +120,10 @@ impl Run {
                 self.next = Session::UNISSUED - 1;
             }
             _ => {
-                put(rt, b"not ")?;
+                print!(rt; "not ")?;
             }
         }
-        put(rt, b"done")?;
+        print!(rt; "done")?;
         self.session = s;
         Ok(self)
     }
@@ -172,29 +141,21 @@ impl Run {
             b'w' => self.verdict(rt, last, Verdict::Weak, bytes),
             b'C' => self.long_challenge(rt, bytes),
             b'o' => self.verdict(rt, 77, Verdict::Success, bytes),
-            b'b' => self.verdict(
-                rt,
-                std::num::wrapping_sub_u64(last, 1),
-                Verdict::Success,
-                bytes,
-            ),
+            b'b' => self.verdict(rt, last.wrapping_sub(1), Verdict::Success, bytes),
             _ => self.set(rt, kind),
         }
     }
 
     fn row(self, rt: &impl Print, text: &[u8]) -> io::Result<Run> {
-        if text.len() < 1 {
-            return Ok(self);
+        match text {
+            [] => Ok(self),
+            [kind, bytes @ ..] => {
+                print!(rt; "{} {}: ", self.session.profile, Quoted(text))?;
+                let next = self.event(rt, *kind, bytes)?;
+                show::stands(rt, next.session)?;
+                Ok(next)
+            }
         }
-        let kind = text[0];
-        let s = self.session;
-        let p = s.profile;
-        show::profile(rt, p)?;
-        quoted(rt, text)?;
-        put(rt, b": ")?;
-        let next = self.event(rt, kind, octets::part(text, 1, text.len()))?;
-        show::stands(rt, next.session)?;
-        Ok(next)
     }
 }
 
@@ -205,17 +166,14 @@ pub(crate) fn dialogue(
     protected: bool,
     events: &[u8],
 ) -> io::Result<()> {
-    put(rt, b"\n")?;
+    println!(rt)?;
     let mut run = Run {
         session: Session::opened(p, protected),
         ticket: 0,
         next: 1,
     };
-    let mut from: usize = 0;
-    while from <= events.len() {
-        let to = octets::find(events, from, b'|');
-        run = run.row(rt, octets::part(events, from, to))?;
-        from = to + 1;
+    for event in events.split(|x| *x == b'|') {
+        run = run.row(rt, event)?;
     }
     Ok(())
 }

@@ -4,63 +4,57 @@
 // u the same, of base64 whose form is not looked at; e how many are lent to encode the octets into, and from which index on;
 // p from where and up to where a line is read;
 // t a text of four octets, with each other octet at each place; a all 256 octets, encoded into so many; l a text of so many letters.
-use crate::form::Form;
-use crate::show::{number, put, quoted};
+use crate::form::Named;
+use crate::rows;
+use crate::show::{Decoded, Measured, Quoted};
 use crate::words::{index, octet, rest};
-use crate::{rows, show};
+use base64text::Base64;
+use octets::reader::{decode_part, measure_part};
 use std::io;
+use xtext::Xtext;
 
 fn vector(rt: &impl Print, bytes: &[u8]) -> io::Result<()> {
-    put(rt, b"BASE64(")?;
-    quoted(rt, bytes)?;
-    put(rt, b") = ")?;
-    rows::text_of(rt, Form::Base64, bytes)?;
-    put(rt, b"\n")
+    print!(rt; "BASE64({}) = ", Quoted(bytes))?;
+    rows::text_of::<Base64>(rt, bytes)?;
+    println!(rt)
 }
 
 fn letters(rt: &impl Print, n: usize) -> io::Result<()> {
     let text = [b'A'; 12288];
     let mut out = [0u8; 9216];
-    number(rt, n)?;
-    put(rt, b" letters: ")?;
-    show::measured(rt, base64text::measure_part(&text, 0, n))?;
-    put(rt, b", ")?;
-    show::decoded(rt, base64text::decode_part(&text, 0, n, &mut out))?;
-    put(rt, b"\n")
+    let measured = measure_part::<Base64>(&text, 0, n);
+    let decoded = decode_part::<Base64>(&text, 0, n, &mut out);
+    println!(rt; "{n} letters: {}, {}", Measured(measured), Decoded(decoded))
 }
 
-fn case(rt: &impl Print, f: Form, row: &[u8]) -> io::Result<()> {
+fn case<F: Named>(rt: &impl Print, row: &[u8]) -> io::Result<()> {
     let text = octets::part(row, 2, row.len());
     let n = index(text, 0);
     match octet(row, 0) {
         b'v' => vector(rt, text),
-        b'r' => rows::read_each(rt, f, text),
-        b'd' => rows::decode_into(rt, f, rest(text, 1), n),
+        b'r' => rows::read_each::<F>(rt, text),
+        b'd' => rows::decode_into::<F>(rt, rest(text, 1), n),
         b'u' => rows::decode_unchecked_into(rt, rest(text, 1), n),
-        b'e' => rows::encode_into(rt, f, rest(text, 2), n, index(text, 1)),
-        b'p' => rows::read_part(rt, f, rest(text, 2), n, index(text, 1)),
-        b't' => rows::taken(rt, f, text),
-        b'a' => rows::all_octets(rt, f, n),
+        b'e' => rows::encode_into::<F>(rt, rest(text, 2), n, index(text, 1)),
+        b'p' => rows::read_part::<F>(rt, rest(text, 2), n, index(text, 1)),
+        b't' => rows::taken::<F>(rt, text),
+        b'a' => rows::all_octets::<F>(rt, n),
         b'l' => letters(rt, n),
-        _ => put(rt, b"not done\n"),
+        _ => println!(rt; "not done"),
     }
 }
 
-fn each(rt: &impl Print, f: Form, list: &[u8]) -> io::Result<()> {
-    let mut from: usize = 0;
-    while from <= list.len() {
-        let to = octets::find(list, from, b';');
-        case(rt, f, octets::part(list, from, to))?;
-        from = to + 1;
+fn each<F: Named>(rt: &impl Print, list: &[u8]) -> io::Result<()> {
+    for row in list.split(|x| *x == b';') {
+        case::<F>(rt, row)?;
     }
     Ok(())
 }
 
 // Not base64: unused bits, "=" elsewhere than at the end, another length, another octet.
 fn base64(rt: &impl Print) -> io::Result<()> {
-    each(
+    each::<Base64>(
         rt,
-        Form::Base64,
         b"v ;v f;v fo;v foo;v foob;v fooba;v foobar;\
         r |Zg==|Zm8=|Zm9v|Zm9vYg==|Zm9vYmE=|Zm9vYmFy|dGVzdAB0ZXN0ADEyMzQ=|\
         cmpzMyBlYzNhNTlmZWQzOTVhYmExZWM2MzY3YzRmNGI0MWFjMA==|dGVzdAB0ZXN0AHRlc3Q=|QUIT;\
@@ -78,9 +72,8 @@ fn base64(rt: &impl Print) -> io::Result<()> {
 
 // Not xtext: small digits, what must be escaped, an escape cut short, no digits.
 fn xtext(rt: &impl Print) -> io::Result<()> {
-    each(
+    each::<Xtext>(
         rt,
-        Form::Xtext,
         b"r e+3Dmc2@example.com||<>|+3C+3E|+2B|+61|+3D+41+42|+00+0A+FF|!*,<>~;\
         r +3d|+3D+4a|e=mc2@example.com|a b|a\r\n|a\x00|a\x7f|a\xff|+|+3|a+|a+3|++3D|+G0|+0G|+0/|+:0|+@0;\
         d 5 a+3Db;d 3 a+3Db;d 2 a+3Db;d 5 a+3db;d 0 ;\

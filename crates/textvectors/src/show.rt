@@ -1,71 +1,59 @@
-// Printing of texts, octets and answers.
-use crate::form::Form;
-use octets::{Decoded, Encoded, Measured};
-use std::io;
-
-pub fn put(rt: &impl Print, text: &[u8]) -> io::Result<()> {
-    rt.write_all(text)
-}
-
-pub fn number(rt: &impl Print, n: usize) -> io::Result<()> {
-    print!(rt; "{n}")
-}
-
-pub(crate) fn form(rt: &impl Print, f: Form) -> io::Result<()> {
-    match f {
-        Form::Base64 => put(rt, b"base64"),
-        Form::Xtext => put(rt, b"xtext"),
-    }
-}
+// Octets and answers as rows print them.
+use octets::DecodeError;
+use std::fmt;
 
 // Octets in quotes, what is not printable in ASCII as "\x" and two digits.
-pub fn quoted(rt: &impl Print, bytes: &[u8]) -> io::Result<()> {
-    put(rt, b"\"")?;
-    for x in bytes {
-        octet(rt, *x)?;
-    }
-    put(rt, b"\"")
-}
+#[derive(Clone, Copy)]
+pub struct Quoted<'a>(pub &'a [u8]);
 
-fn octet(rt: &impl Print, x: u8) -> io::Result<()> {
-    if (32 <= x) & (x <= 126) {
-        put(rt, &[x])
-    } else {
-        escaped(rt, x)
-    }
-}
-
-fn escaped(rt: &impl Print, x: u8) -> io::Result<()> {
-    print!(rt; "\\x{x:02x}")
-}
-
-pub fn measured(rt: &impl Print, m: Measured) -> io::Result<()> {
-    match m {
-        Measured::Length(n) => {
-            put(rt, b"length ")?;
-            number(rt, n)
+impl fmt::Display for Quoted<'_> {
+    fn fmt<W: fmt::Write>(&self, f: &mut fmt::Formatter<W>) -> fmt::Result {
+        f.write_str("\"")?;
+        for x in self.0 {
+            match *x {
+                b' '..=b'~' => f.write_char(char::from(*x))?,
+                other => write!(f, "\\x{other:02x}")?,
+            }
         }
-        Measured::Malformed => put(rt, b"malformed"),
+        f.write_str("\"")
     }
 }
 
-pub fn decoded(rt: &impl Print, d: Decoded) -> io::Result<()> {
-    match d {
-        Decoded::Length(n) => {
-            put(rt, b"length ")?;
-            number(rt, n)
+// How many octets a text stands for.
+#[derive(Clone, Copy)]
+pub struct Measured(pub Option<usize>);
+
+impl fmt::Display for Measured {
+    fn fmt<W: fmt::Write>(&self, f: &mut fmt::Formatter<W>) -> fmt::Result {
+        match self.0 {
+            Some(n) => write!(f, "length {n}"),
+            None => f.write_str("malformed"),
         }
-        Decoded::Malformed => put(rt, b"malformed"),
-        Decoded::Short => put(rt, b"short"),
     }
 }
 
-pub fn encoded(rt: &impl Print, e: Encoded) -> io::Result<()> {
-    match e {
-        Encoded::End(n) => {
-            put(rt, b"end ")?;
-            number(rt, n)
+// How many octets were decoded.
+#[derive(Clone, Copy)]
+pub struct Decoded(pub Result<usize, DecodeError>);
+
+impl fmt::Display for Decoded {
+    fn fmt<W: fmt::Write>(&self, f: &mut fmt::Formatter<W>) -> fmt::Result {
+        match self.0 {
+            Ok(n) => write!(f, "length {n}"),
+            Err(e) => write!(f, "{e}"),
         }
-        Encoded::Short => put(rt, b"short"),
+    }
+}
+
+// The index after a text that was encoded.
+#[derive(Clone, Copy)]
+pub struct Encoded(pub Option<usize>);
+
+impl fmt::Display for Encoded {
+    fn fmt<W: fmt::Write>(&self, f: &mut fmt::Formatter<W>) -> fmt::Result {
+        match self.0 {
+            Some(n) => write!(f, "end {n}"),
+            None => f.write_str("short"),
+        }
     }
 }

@@ -1,4 +1,7 @@
 -- One call on an image, exit by exit: refused, or done by what was written in place. Assumes nothing.
+use Rattle.std.specs.Prelude.{Result, Ok, Err, ok_or}
+use Rattle.std.specs.Prelude as Rust
+use Rattle.std.specs.Prelude.{Some, None}
 use mathlib.Core.Path.{◌≡◌, refl, sym, ap, ◌∙◌}
 use mathlib.Core.Bool.{Bool, true, false, cond}
 use mathlib.Core.List.{List, []}
@@ -22,16 +25,13 @@ use Rattle.server.specs.declared.Connection.{Connection}
 use Rattle.server.proofs.Kept.{parts, found-open}
 use Rattle.session.specs.Named.{bears}
 use Rattle.session.specs.WellFormed.{well_formed}
-use Rattle.image.specs.declared.Found.{Found}
-use Rattle.image.specs.declared.Found.TheVariants as Founds
 use Rattle.image.specs.Image.{Image, image_of, taken}
 use Rattle.image.specs.InPlace.{is_taken, read_server, connection_read, slot_found, slot_written, fresh_written}
 use Rattle.image.specs.Sizes.{image_size}
 use Rattle.image.proofs.Laws.{taken_own, taken-within, not_taken, own-size, found-replaced, connection-found, connection-passes, connection-absent}
 use Rattle.calls.specs.Call.{Call, request, is_short}
 use Rattle.calls.specs.Step.{Out, lent, out_of, outcome, step}
-use Rattle.umbrelnic.specs.declared.finding.Place.TheVariants as Places
-use Rattle.umbrelnic.specs.Private.{place_of, placed, ended}
+use Rattle.umbrelnic.specs.Private.{placed, ended}
 
 -- what a refused call comes to
 abbrev pub refused_out : Image → Refusal → Out
@@ -54,27 +54,27 @@ module _ (l : Image) (c : Call) where
 
 module _ (k : Refusal) (p : Slot → Bool) (l : Image) where
   -- where it was found the image is taken
-  pub placed_at : (i : ℕ) → Places.At i ≡ placed k p l → (is_taken l ≡ true) × (slot_found p l ≡ Founds.At i)
+  pub placed_at : (i : ℕ) → Ok i ≡ placed k p l → (is_taken l ≡ true) × (slot_found p l ≡ Some i)
   unfolding placed
   placed_at i e = go (is_taken l) refl (slot_found p l) refl e
     where
-      go : (b : Bool) → is_taken l ≡ b → (f : Found) → slot_found p l ≡ f → Places.At i ≡ cond b (place_of k f) (Places.Refused Refusals.NotTaken)
-          → (is_taken l ≡ true) × (slot_found p l ≡ Founds.At i)
-      go true et (Founds.At j) ef h = let z : i ≡ j = cc in (et, ef ∙ ap Founds.At (sym z))
-      go true et Founds.Nothing ef h = let z : ◌≡◌ {A = ℕ} 0 1 = cc in absurd (omega arith)
+      go : (b : Bool) → is_taken l ≡ b → (f : Rust.Option ℕ) → slot_found p l ≡ f → Ok i ≡ cond b (ok_or f k) (Err Refusals.NotTaken)
+          → (is_taken l ≡ true) × (slot_found p l ≡ Some i)
+      go true et (Some j) ef h = let z : i ≡ j = cc in (et, ef ∙ ap Some (sym z))
+      go true et None ef h = let z : ◌≡◌ {A = ℕ} 0 1 = cc in absurd (omega arith)
       go false et f ef h = let z : ◌≡◌ {A = ℕ} 0 1 = cc in absurd (omega arith)
 
 -- a call for a connection that passes a test is refused as the search says; k: the refusal where there is none
 module _ (l : Image) (c : Call) (k : Refusal) (q : Connection → Bool) (long : is_short c ≡ false) (on-image : lent l (request c) ≡ taken l)
     (absent : (s : Server) → found q s.slots ≡ none → on s (request c) ≡ refuses k) where
-  pub step-refused : (j : Refusal) → Places.Refused j ≡ placed k (holding q) l → step l c ≡ refused_out l j
+  pub step-refused : (j : Refusal) → Err j ≡ placed k (holding q) l → step l c ≡ refused_out l j
   unfolding placed
   step-refused j e = go (is_taken l) refl (slot_found (holding q) l) refl e
     where
-      go : (b : Bool) → is_taken l ≡ b → (f : Found) → slot_found (holding q) l ≡ f
-          → Places.Refused j ≡ cond b (place_of k f) (Places.Refused Refusals.NotTaken) → step l c ≡ refused_out l j
-      go true et (Founds.At i) ef h = let z : ◌≡◌ {A = ℕ} 0 1 = cc in absurd (omega arith)
-      go true et Founds.Nothing ef h =
+      go : (b : Bool) → is_taken l ≡ b → (f : Rust.Option ℕ) → slot_found (holding q) l ≡ f
+          → Err j ≡ cond b (ok_or f k) (Err Refusals.NotTaken) → step l c ≡ refused_out l j
+      go true et (Some i) ef h = let z : ◌≡◌ {A = ℕ} 0 1 = cc in absurd (omega arith)
+      go true et None ef h =
           let z : k ≡ j = cc in
           step-on l c (read_server l) long (on-image ∙ (taken_own l et).0)
           ∙ ap (out_of l (request c)) (absent (read_server l) (connection-absent q l (own-size l et) ef))
@@ -99,24 +99,24 @@ make-done l n t e =
 -- ---- mail ended, who and close
 
 module _ (l : Image) (n : ℕ) where
-  pub mail-refused : (j : Refusal) → Places.Refused j ≡ placed Refusals.NoConnection (holding (is_numbered n)) l → step l (Call.mail_ended n) ≡ refused_out l j
+  pub mail-refused : (j : Refusal) → Err j ≡ placed Refusals.NoConnection (holding (is_numbered n)) l → step l (Call.mail_ended n) ≡ refused_out l j
   unfolding on on_mail_ended
   mail-refused = step-refused l (Call.mail_ended n) Refusals.NoConnection (is_numbered n) refl refl (λ s e. ap (mail_found s) e)
 
   pub who-refused : (b : List ℕ) → is_short (Call.who n b) ≡ false → (j : Refusal)
-      → Places.Refused j ≡ placed Refusals.NoConnection (holding (is_numbered n)) l → step l (Call.who n b) ≡ refused_out l j
+      → Err j ≡ placed Refusals.NoConnection (holding (is_numbered n)) l → step l (Call.who n b) ≡ refused_out l j
   unfolding on on_who
   who-refused b long = step-refused l (Call.who n b) Refusals.NoConnection (is_numbered n) long refl (λ s e. ap (who_found s) e)
 
-  pub close-refused : (j : Refusal) → Places.Refused j ≡ placed Refusals.NoConnection (holding (is_numbered n)) l → step l (Call.close n) ≡ refused_out l j
+  pub close-refused : (j : Refusal) → Err j ≡ placed Refusals.NoConnection (holding (is_numbered n)) l → step l (Call.close n) ≡ refused_out l j
   unfolding on on_close
   close-refused = step-refused l (Call.close n) Refusals.NoConnection (is_numbered n) refl refl (λ s e. ap (close_found s) e)
 
-  module _ (i : ℕ) (place : Places.At i ≡ placed Refusals.NoConnection (holding (is_numbered n)) l) where
+  module _ (i : ℕ) (place : Ok i ≡ placed Refusals.NoConnection (holding (is_numbered n)) l) where
     is-taken : is_taken l ≡ true
     is-taken = (placed_at Refusals.NoConnection (holding (is_numbered n)) l i place).0
 
-    is_found : slot_found (holding (is_numbered n)) l ≡ Founds.At i
+    is_found : slot_found (holding (is_numbered n)) l ≡ Some i
     is_found = (placed_at Refusals.NoConnection (holding (is_numbered n)) l i place).1
 
     is_read : found (is_numbered n) (read_server l).slots ≡ some (connection_read l i)

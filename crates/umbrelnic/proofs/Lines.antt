@@ -1,4 +1,7 @@
 -- A line, exit by exit. Assumes nothing.
+use Rattle.std.specs.Prelude.{Result, Ok, Err}
+use Rattle.std.specs.Prelude as Rust
+use Rattle.std.specs.Prelude.{Some, None}
 use mathlib.Core.Path.{◌≡◌, refl, sym, ap, ◌∙◌}
 use mathlib.Core.Bool.{true, false, cond, not, ◌&&◌, false≢true}
 use mathlib.Core.List.{List, []}
@@ -35,7 +38,6 @@ use Rattle.server.specs.Server.{Server}
 use Rattle.server.specs.Slots.{is_numbered, holding, found}
 use Rattle.server.specs.declared.Connection.{Connection}
 use Rattle.server.proofs.Issues.{Issues, line-issues}
-use Rattle.image.specs.declared.Found.TheVariants.{At}
 use Rattle.image.specs.Image.{Image}
 use Rattle.image.specs.InPlace.{is_taken, read_server, header_read, mechanisms_read, connection_read, slot_found}
 use Rattle.image.proofs.Laws.{taken_own, own-size, header_read_lem, mechanisms-read, connection-found, connection-passes}
@@ -44,7 +46,6 @@ use Rattle.calls.specs.Call.{is_short}
 use Rattle.calls.specs.Step.{lent, out_of, step, response_lent}
 use Rattle.umbrelnic.specs.Given.{line_numbers}
 use Rattle.umbrelnic.specs.Private.{placed, kept_in, issued_in, handed_in, LineDone}
-use Rattle.umbrelnic.specs.declared.finding.Place.TheVariants as Places
 use Rattle.umbrelnic.proofs.Exits.{refused_out, step-on, step-refused}
 use Rattle.umbrelnic.proofs.Settles.{Settled, settles, keeps-issued, hands}
 
@@ -88,7 +89,7 @@ unrelayed Answers.EmptyChallenge x e = refl
 unrelayed Answers.Challenge x e = refl
 
 pub line_refused : (l : Image) (n : ℕ) (x reply answer : List ℕ) → is_short (Call.line n x reply answer) ≡ false → (j : Refusal)
-    → Places.Refused j ≡ placed Refusals.NoConnection (holding (is_numbered n)) l → step l (Call.line n x reply answer) ≡ refused_out l j
+    → Err j ≡ placed Refusals.NoConnection (holding (is_numbered n)) l → step l (Call.line n x reply answer) ≡ refused_out l j
 unfolding on on_line
 line_refused l n x reply answer long = step-refused l (Call.line n x reply answer) Refusals.NoConnection (is_numbered n) long refl (λ s e. ap (line_found s x) e)
 
@@ -97,7 +98,7 @@ module _ (l : Image) (n : ℕ) (x reply answer : List ℕ) (t : is_taken l ≡ t
   unfolding on on_line
   line_on = step-on l (Call.line n x reply answer) (read_server l) long (taken_own l t).0
 
-  module _ (i : ℕ) (e : slot_found (holding (is_numbered n)) l ≡ At i) where
+  module _ (i : ℕ) (e : slot_found (holding (is_numbered n)) l ≡ Some i) where
     numbered : (connection_read l i).number ≡ n
     numbered = eqb-true (connection_read l i).number n (connection-passes (is_numbered n) l i e)
 

@@ -1,12 +1,13 @@
 -- Open, exit by exit. Assumes nothing.
+use Rattle.std.specs.Prelude.{Option, Some, None}
+use Rattle.std.specs.Prelude.{Result, Ok, Err}
 use mathlib.Core.Path.{◌≡◌, refl, sym, ap, ◌∙◌}
 use mathlib.Core.Bool.{Bool, true}
 use mathlib.Core.Option.{some}
 use Prim.Native.Nat.{ℕ, ◌<◌, ◌≤◌}
 use borrow.Author.Tests.{eq-eqb, ne_eqb, le-leb, lt-leb}
 use Rattle.profile.specs.Numbers.{profile_of}
-use Rattle.profile.specs.declared.ListedProfile.{ListedProfile}
-use Rattle.profile.specs.declared.ListedProfile.TheVariants.{Known, Unlisted}
+use Rattle.profile.specs.declared.numbers.Refusal.{Refusal}
 use Rattle.profile.specs.declared.Profile.{Profile}
 use Rattle.profile.specs.declared.numbers.Refusal.TheVariants as Refusals
 use Rattle.session.specs.Limits.{unissued}
@@ -16,7 +17,6 @@ use Rattle.server.specs.Requests.{on}
 use Rattle.server.specs.Server.{with_slots}
 use Rattle.server.specs.Slots.{is_free, replaced}
 use Rattle.server.specs.declared.Header.{Header}
-use Rattle.image.specs.declared.Found.TheVariants.{At, Nothing}
 use Rattle.image.specs.Image.{Image, image_of}
 use Rattle.image.specs.InPlace.{is_taken, read_server, header_read, slot_found, header_written, slot_written}
 use Rattle.image.proofs.Laws.{taken_own, own-size, header_read_lem, header-written, free-found, free-absent, found-replaced}
@@ -26,13 +26,13 @@ use Rattle.calls.specs.Step.{out_of, step}
 use Rattle.umbrelnic.proofs.Exits.{refused_out, step-on}
 
 module _ (l : Image) (t : is_taken l ≡ true) (p : Profile) (b : Bool) where
-  pub open_full : slot_found is_free l ≡ Nothing → enters (read_server l) p b ≡ refuses Refusals.Full
+  pub open_full : slot_found is_free l ≡ None → enters (read_server l) p b ≡ refuses Refusals.Full
   open_full e = rw (free-absent l (own-size l t) e)
 
   header-own : header_read l ≡ (read_server l).header
   header-own = header_read_lem l (own-size l t)
 
-  module _ (i : ℕ) (e : slot_found is_free l ≡ At i) where
+  module _ (i : ℕ) (e : slot_found is_free l ≡ Some i) where
     pub open_exhausted : (header_read l).connection ≡ unissued → enters (read_server l) p b ≡ refuses Refusals.Exhausted
     open_exhausted h = rw (free-found l i e, eq-eqb (read_server l).header.connection unissued (ap (λ (x : Header). x.connection) (sym header-own) ∙ h))
 
@@ -51,18 +51,18 @@ module _ (l : Image) (t : is_taken l ≡ true) (p : Profile) (b : Bool) where
 
 -- the whole call
 module _ (l : Image) (t : is_taken l ≡ true) (k b : ℕ) where
-  opens_as_lem : (p : ListedProfile) → p ≡ profile_of k → step l (Call.opens k b) ≡ out_of l (request (Call.opens k b)) (opens_as (read_server l) p b)
+  opens_as_lem : (p : Result Profile Refusal) → p ≡ profile_of k → step l (Call.opens k b) ≡ out_of l (request (Call.opens k b)) (opens_as (read_server l) p b)
   unfolding on on_open
   opens_as_lem p e =
       step-on l (Call.opens k b) (read_server l) refl (taken_own l t).0
-      ∙ ap (λ (x : ListedProfile). out_of l (request (Call.opens k b)) (opens_as (read_server l) x b)) (sym e)
+      ∙ ap (λ (x : Result Profile Refusal). out_of l (request (Call.opens k b)) (opens_as (read_server l) x b)) (sym e)
 
-  pub open-unlisted : Unlisted ≡ profile_of k → step l (Call.opens k b) ≡ refused_out l Refusals.NotListed
-  open-unlisted e = opens_as_lem Unlisted e
+  pub open-unlisted : {r : Refusal} → Err r ≡ profile_of k → step l (Call.opens k b) ≡ refused_out l Refusals.NotListed
+  open-unlisted {r} e = opens_as_lem (Err r) e
 
-  pub open-neither : (p : Profile) → Known p ≡ profile_of k → 1 < b → step l (Call.opens k b) ≡ refused_out l Refusals.NotListed
-  open-neither p e h = opens_as_lem (Known p) e ∙ rw (lt-leb b 1 h)
+  pub open-neither : (p : Profile) → Ok p ≡ profile_of k → 1 < b → step l (Call.opens k b) ≡ refused_out l Refusals.NotListed
+  open-neither p e h = opens_as_lem (Ok p) e ∙ rw (lt-leb b 1 h)
 
-  pub open-listed : (p : Profile) → Known p ≡ profile_of k → b ≤ 1
+  pub open-listed : (p : Profile) → Ok p ≡ profile_of k → b ≤ 1
       → step l (Call.opens k b) ≡ out_of l (request (Call.opens k b)) (enters (read_server l) p (is_yes b))
-  open-listed p e h = opens_as_lem (Known p) e ∙ rw (le-leb b 1 h)
+  open-listed p e h = opens_as_lem (Ok p) e ∙ rw (le-leb b 1 h)

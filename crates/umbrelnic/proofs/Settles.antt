@@ -1,4 +1,5 @@
 -- What is kept of a step and put into the buffers is what its outcome says. Assumes nothing.
+use Rattle.std.specs.Prelude.{Option, Some, None}
 use mathlib.Core.Path.{◌≡◌, refl, sym, ap, ◌∙◌}
 use mathlib.Core.Bool.{Bool, true, false, cond, false≢true}
 use mathlib.Core.List.{List, []}
@@ -9,7 +10,7 @@ use borrow.Author.Tests.{le-leb}
 use lib.ListN.{length}
 use Rattle.octets.proofs.Answers.{nothing_written}
 use Rattle.octets.specs.Answers.{written, encoded}
-use Rattle.octets.specs.declared.Encoded.TheVariants.{End, Short}
+use Rattle.std.specs.Prelude.{Option, Some, None, Result, Ok, Err}
 use Rattle.profile.specs.declared.Profile.{Profile}
 use Rattle.profile.specs.declared.numbers.Identity.{Identity}
 use Rattle.profile.specs.declared.numbers.Identity.TheVariants as Identities
@@ -26,7 +27,6 @@ use Rattle.server.specs.Outcome.{answered, settled}
 use Rattle.server.specs.Server.{Slot, Server, with_slots}
 use Rattle.server.specs.Slots.{replaced}
 use Rattle.server.specs.declared.Connection.{Connection}
-use Rattle.image.specs.declared.Found.TheVariants.{At}
 use Rattle.image.specs.Image.{Image, image_of}
 use Rattle.image.specs.InPlace.{is_taken, read_server, header_read, slot_found, header_written, slot_written}
 use Rattle.image.proofs.Laws.{own-size, header_read_lem, header-written, found-replaced}
@@ -39,14 +39,14 @@ use Rattle.umbrelnic.specs.Private.{next_of, kept_in, issued, issued_in, handed_
 
 -- what fits is written, and its end told
 module _ (h b : List ℕ) (f : length h ≤ length b) where
-  fits : encoded h (length b) 0 ≡ End (0 + length h)
+  fits : encoded h (length b) 0 ≡ Some (0 + length h)
   fits = rw (le-leb (0 + length h) (length b) (omega arith))
 
-  pub said-end : (n : ℕ) → End n ≡ encoded h (length b) 0 → n ≡ length h
-  said-end n e = let z : End n ≡ End (0 + length h) = e ∙ fits in let y : n ≡ 0 + length h = cc in omega arith
+  pub said-end : (n : ℕ) → Some n ≡ encoded h (length b) 0 → n ≡ length h
+  said-end n e = let z : Some n ≡ Some (0 + length h) = e ∙ fits in let y : n ≡ 0 + length h = cc in omega arith
 
-  pub said-short : {X : Type 0} → Short ≡ encoded h (length b) 0 → X
-  said-short e = let z : Short ≡ End (0 + length h) = e ∙ fits in let y : ◌≡◌ {A = ℕ} 0 1 = cc in absurd (omega arith)
+  pub said-short : {X : Type 0} → None ≡ encoded h (length b) 0 → X
+  said-short e = let z : None ≡ Some (0 + length h) = e ∙ fits in let y : ◌≡◌ {A = ℕ} 0 1 = cc in absurd (omega arith)
 
 -- ---- an outcome, by the step's answer
 
@@ -68,7 +68,7 @@ settles l Answers.Challenge p d x z w = record { gives = refl; hears = refl; lea
 
 -- ---- the image
 
-module _ (l : Image) (t : is_taken l ≡ true) (q : Slot → Bool) (i : ℕ) (e : slot_found q l ≡ At i) (c : Connection) (z : Session) where
+module _ (l : Image) (t : is_taken l ≡ true) (q : Slot → Bool) (i : ℕ) (e : slot_found q l ≡ Some i) (c : Connection) (z : Session) where
   written_next : (a : Answer) → slot_written l i (some (next_of c.number (record { session = z; answer = a })))
       ≡ image_of (with_slots (read_server l) (replaced q (some (record { session = z; number = c.number })) (read_server l).slots))
   written_next a = found-replaced q l i e (some (record { session = z; number = c.number })) t

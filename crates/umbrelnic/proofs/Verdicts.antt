@@ -1,4 +1,7 @@
 -- A verdict, exit by exit. Assumes nothing.
+use Rattle.std.specs.Prelude.{Result, Ok, Err}
+use Rattle.std.specs.Prelude.{Option, Some, None}
+use Rattle.std.specs.Prelude.{Result, Ok, Err}
 use mathlib.Core.Path.{◌≡◌, refl, sym, ap, ◌∙◌}
 use mathlib.Core.Bool.{true, false, false≢true}
 use mathlib.Core.List.{List, []}
@@ -8,8 +11,6 @@ use native.Mathlib.Omega.{arith}
 use lib.ListN.{length}
 use Rattle.octets.specs.Answers.{written}
 use Rattle.profile.specs.Numbers.{verdict_of}
-use Rattle.profile.specs.declared.numbers.ListedVerdict.{ListedVerdict}
-use Rattle.profile.specs.declared.numbers.ListedVerdict.TheVariants.{Known, Unlisted}
 use Rattle.profile.specs.declared.numbers.Refusal.{Refusal}
 use Rattle.profile.specs.declared.numbers.Refusal.TheVariants as Refusals
 use Rattle.profile.specs.declared.numbers.Verdict.{Verdict}
@@ -28,7 +29,6 @@ use Rattle.server.specs.Requests.{on}
 use Rattle.server.specs.Slots.{is_waiting, holding}
 use Rattle.server.specs.Verdict.{verdict_found, on_verdict}
 use Rattle.server.proofs.Issues.{verdict-heard-one}
-use Rattle.image.specs.declared.Found.TheVariants.{At}
 use Rattle.image.specs.Image.{Image}
 use Rattle.image.specs.InPlace.{is_taken, read_server, connection_read, slot_found}
 use Rattle.image.proofs.Laws.{taken_own, connection-found}
@@ -37,7 +37,6 @@ use Rattle.calls.specs.Call.{is_short}
 use Rattle.calls.specs.Step.{out_of, step, result_in, is_queried, relayed_in}
 use Rattle.umbrelnic.specs.Given.{said_numbers}
 use Rattle.umbrelnic.specs.Private.{placed, kept_in, judgement, Judged}
-use Rattle.umbrelnic.specs.declared.finding.Place.TheVariants as Places
 use Rattle.umbrelnic.proofs.Exits.{refused_out, step-on, step-refused}
 use Rattle.umbrelnic.proofs.Settles.{Settled, settles, keeps}
 
@@ -52,11 +51,11 @@ unasked Answers.Challenge h = refl
 
 -- ---- a verdict on the ticket that the connection in slot i waits on
 
-module _ (l : Image) (t : ℕ) (d reply : List ℕ) (k : is_taken l ≡ true) (i : ℕ) (e : slot_found (holding (is_waiting t)) l ≡ At i) where
+module _ (l : Image) (t : ℕ) (d reply : List ℕ) (k : is_taken l ≡ true) (i : ℕ) (e : slot_found (holding (is_waiting t)) l ≡ Some i) where
   abbrev judged_as : Verdict → Stepped
   judged_as v = after_verdict (connection_read l i).session t v d
 
-  judged-found : (v : ListedVerdict) → judgement l t v d ≡ verdict_found (read_server l) t v d (some (connection_read l i))
+  judged-found : (v : Result Verdict Refusal) → judgement l t v d ≡ verdict_found (read_server l) t v d (some (connection_read l i))
   judged-found v = ap (verdict_found (read_server l) t v d) (connection-found (is_waiting t) l i e)
 
   parts : (v : Verdict) → Settled l (judged_as v).answer (heard (connection_read l i).session.profile d (judged_as v).answer) []
@@ -67,34 +66,34 @@ module _ (l : Image) (t : ℕ) (d reply : List ℕ) (k : is_taken l ≡ true) (i
   pub verdict-room : (v : Verdict) → reply_buffer ≤ length reply → length (heard (connection_read l i).session.profile d (judged_as v).answer) ≤ length reply
   verdict-room v f = omega (arith, verdict-heard-fits (connection_read l i).session.profile (connection_read l i).session t v d)
 
-  pub verdict-done : (v : Verdict) → Judged l t (Known v) d reply
+  pub verdict-done : (v : Verdict) → Judged l t (Ok v) d reply
       (said_numbers (numbers (judged_as v).answer (length (heard (connection_read l i).session.profile d (judged_as v).answer))))
       (kept_in l i (connection_read l i).number (judged_as v))
       (written reply 0 (heard (connection_read l i).session.profile d (judged_as v).answer))
   verdict-done v =
       record {
-        given = rw (judged-found (Known v)) (ap said_numbers (sym (parts v).gives));
+        given = rw (judged-found (Ok v)) (ap said_numbers (sym (parts v).gives));
         image =
-            rw (judged-found (Known v))
+            rw (judged-found (Ok v))
             (keeps l k (holding (is_waiting t)) i e (connection_read l i) (judged_as v).session (judged_as v).answer
             (unasked (judged_as v).answer (verdict-heard-one (connection_read l i).session t v d))
             ∙ sym (parts v).leaves);
-        heard = rw (judged-found (Known v)) (ap (λ (h : List ℕ). written reply 0 h) (sym (parts v).hears));
+        heard = rw (judged-found (Ok v)) (ap (λ (h : List ℕ). written reply 0 h) (sym (parts v).hears));
       }
 
-  pub verdict-unlisted : judgement l t Unlisted d ≡ refuses Refusals.NotListed
-  verdict-unlisted = judged-found Unlisted
+  pub verdict-unlisted : (r : Refusal) → judgement l t (Err r) d ≡ refuses Refusals.NotListed
+  verdict-unlisted r = judged-found (Err r)
 
   -- nothing is handed over with a verdict
-  relays : (v : ListedVerdict) → relayed_in (result_in (judgement l t v d)) ≡ []
-  relays Unlisted = rw verdict-unlisted
-  relays (Known v) = rw (judged-found (Known v)) (parts v).relays
+  relays : (v : Result Verdict Refusal) → relayed_in (result_in (judgement l t v d)) ≡ []
+  relays (Err r) = rw (verdict-unlisted r)
+  relays (Ok v) = rw (judged-found (Ok v)) (parts v).relays
 
-  queries : (v : ListedVerdict) → is_queried (result_in (judgement l t v d)) ≡ false
-  queries Unlisted = rw verdict-unlisted
-  queries (Known v) = rw (judged-found (Known v)) ((parts v).queries ∙ unasked (judged_as v).answer (verdict-heard-one (connection_read l i).session t v d))
+  queries : (v : Result Verdict Refusal) → is_queried (result_in (judgement l t v d)) ≡ false
+  queries (Err r) = rw (verdict-unlisted r)
+  queries (Ok v) = rw (judged-found (Ok v)) ((parts v).queries ∙ unasked (judged_as v).answer (verdict-heard-one (connection_read l i).session t v d))
 
-  pub nothing-handed : (v : ListedVerdict) (n : ℕ) → (out_of l (Requests.verdict t n d) (judgement l t v d)).handed ≡ []
+  pub nothing-handed : (v : Result Verdict Refusal) (n : ℕ) → (out_of l (Requests.verdict t n d) (judgement l t v d)).handed ≡ []
   nothing-handed v n = rw (queries v) (relays v)
 
 -- ---- the whole call
@@ -105,7 +104,7 @@ module _ (l : Image) (t n : ℕ) (d reply answer : List ℕ) (k : is_taken l ≡
   verdict-on = step-on l (Call.verdict t n d reply answer) (read_server l) long (taken_own l k).0
 
 pub verdict-refused : (l : Image) (t n : ℕ) (d reply answer : List ℕ) → is_short (Call.verdict t n d reply answer) ≡ false → (j : Refusal)
-    → Places.Refused j ≡ placed Refusals.NoTicket (holding (is_waiting t)) l → step l (Call.verdict t n d reply answer) ≡ refused_out l j
+    → Err j ≡ placed Refusals.NoTicket (holding (is_waiting t)) l → step l (Call.verdict t n d reply answer) ≡ refused_out l j
 unfolding on on_verdict
 verdict-refused l t n d reply answer long =
     step-refused l (Call.verdict t n d reply answer) Refusals.NoTicket (is_waiting t) long refl (λ s e. ap (verdict_found s t (verdict_of n) d) e)

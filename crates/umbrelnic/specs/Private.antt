@@ -1,10 +1,13 @@
 -- What only private functions cite.
+use Rattle.std.specs.Prelude.{Result, Ok, Err, ok_or}
+use Rattle.std.specs.Prelude.{Option, Some, None}
+use Rattle.std.specs.Prelude.{Result, Ok, Err, ok_or}
 use Rattle.std.specs.Prelude.{◌≡◌, Bool, cond, List, ℕ, ◌+◌}
 use Rattle.std.proofs.Math.Option.{some}
 use Rattle.base64text.specs.Base64 as Base64
 use Rattle.xtext.specs.Xtext as Xtext
 use Rattle.octets.specs.Answers.{written}
-use Rattle.profile.specs.declared.numbers.ListedVerdict.{ListedVerdict}
+use Rattle.profile.specs.declared.numbers.Verdict.{Verdict}
 use Rattle.profile.specs.declared.numbers.Refusal.{Refusal}
 use Rattle.profile.specs.declared.numbers.Refusal.TheVariants.{NotTaken}
 use Rattle.session.specs.MailEnded.{after_mail}
@@ -20,26 +23,18 @@ use Rattle.server.specs.Slots.{is_waiting, found}
 use Rattle.server.specs.Verdict.{verdict_found}
 use Rattle.server.specs.declared.Connection.{Connection}
 use Rattle.server.specs.declared.Header.{Header}
-use Rattle.image.specs.declared.Found.{Found}
-use Rattle.image.specs.declared.Found.TheVariants as Founds
 use Rattle.image.specs.Image.{Image}
 use Rattle.image.specs.InPlace.{is_taken, read_server, slot_found, header_written, slot_written}
 use Rattle.calls.specs.Buffers.{heard_in, reply_after, answer_after}
 use Rattle.calls.specs.Call.{line}
 use Rattle.calls.specs.Step.{result_in, image_in, step}
 use Rattle.umbrelnic.specs.declared.LineAnswer.{LineAnswer}
-use Rattle.umbrelnic.specs.declared.finding.Place.{Place}
-use Rattle.umbrelnic.specs.declared.finding.Place.TheVariants as Places
 use Rattle.umbrelnic.specs.declared.Said.{Said}
 use Rattle.umbrelnic.specs.Given.{line_answer_of, said_of}
 
 -- where a search ended, and with the image tested first; k: the refusal where nothing was found
-abbrev pub place_of : Refusal → Found → Place
-place_of k (Founds.At i) = Places.At i
-place_of k Founds.Nothing = Places.Refused k
-
-unfoldable pub placed : Refusal → (Slot → Bool) → Image → Place
-placed k p l = cond (is_taken l) (place_of k (slot_found p l)) (Places.Refused NotTaken)
+unfoldable pub placed : Refusal → (Slot → Bool) → Image → Result ℕ Refusal
+placed k p l = cond (is_taken l) (ok_or (slot_found p l) k) (Err NotTaken)
 
 -- a connection after the end of a transaction, and after a step
 abbrev pub ended : Connection → Connection
@@ -73,10 +68,10 @@ pub record LineDone (l : Image) (n : ℕ) (x reply answer : List ℕ) (r : LineA
   pub handed : c ≡ answer_after (step l (line n x reply answer)) answer
 
 -- a verdict on a ticket that some connection waits on
-abbrev pub judgement : Image → ℕ → ListedVerdict → List ℕ → Outcome
+abbrev pub judgement : Image → ℕ → Result Verdict Refusal → List ℕ → Outcome
 judgement l t v d = verdict_found (read_server l) t v d (found (is_waiting t) (read_server l).slots)
 
-pub record Judged (l : Image) (t : ℕ) (v : ListedVerdict) (d reply : List ℕ) (r : Said) (i : Image) (b : List ℕ) : Type 0 where
+pub record Judged (l : Image) (t : ℕ) (v : Result Verdict Refusal) (d reply : List ℕ) (r : Said) (i : Image) (b : List ℕ) : Type 0 where
   pub given : r ≡ said_of (result_in (judgement l t v d))
   pub image : i ≡ image_in l (judgement l t v d)
   pub heard : b ≡ written reply 0 (heard_in (result_in (judgement l t v d)))

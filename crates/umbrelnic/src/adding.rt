@@ -1,7 +1,6 @@
 // A mechanism added to an image that is taken.
 ghost use Rattle.std.specs.Prelude.{◌≡◌, true};
 ghost use Rattle.server.specs.Add.{adds_to};
-ghost use Rattle.server.specs.Mechanisms.{is_present};
 ghost use Rattle.calls.specs.Numbers.{refusal};
 ghost use Rattle.calls.specs.Step.{result_in, image_in};
 ghost use Rattle.image.specs.InPlace.{is_taken, read_server};
@@ -9,16 +8,6 @@ ghost use Rattle.image.specs.InPlace.{is_taken, read_server};
 use lines::mechanism::is_mechanism;
 use profile::numbers::Refusal;
 use server::{MOST_MECHANISMS, Mechanism};
-use session::view::Offer;
-
-fn is_present(offer: Offer) -> bool
-    ensures { result ≡ is_present offer }
-{
-    match offer {
-        Offer::Absent => false,
-        Offer::Present { .. } => true,
-    }
-}
 
 pub(crate) fn add(image: &mut [u8], name: &[u8], client_first: bool, needs_protection: bool) -> u64
     requires { is_taken image.old ≡ true }
@@ -26,20 +15,20 @@ pub(crate) fn add(image: &mut [u8], name: &[u8], client_first: bool, needs_prote
 {
     let header = image::read_header(image);
     if header.sealed {
-        return Refusal::Sealed.number();
+        return u64::from(Refusal::Sealed);
     }
     if !is_mechanism(name) {
-        return Refusal::BadName.number();
+        return u64::from(Refusal::BadName);
     }
     let table = image::read_mechanisms(image);
     let mechanism = Mechanism::new(name, client_first, needs_protection);
     let kept = mechanism.name;
-    if is_present(table.offer(kept)) {
-        return Refusal::NamePresent.number();
+    if table.offer(kept).is_some() {
+        return u64::from(Refusal::NamePresent);
     }
     let count = table.count;
     if MOST_MECHANISMS <= count {
-        return Refusal::TableFull.number();
+        return u64::from(Refusal::TableFull);
     }
     image::write_mechanism(image, count, mechanism);
     0

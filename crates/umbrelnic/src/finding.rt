@@ -2,44 +2,28 @@
 ghost use Rattle.std.specs.Prelude.{◌≡◌};
 ghost use Rattle.profile.specs.declared.numbers.Refusal.TheVariants.{NoConnection, NoTicket};
 ghost use Rattle.server.specs.Slots.{is_numbered, is_waiting, holding};
-ghost use Rattle.umbrelnic.specs.Private.{place_of, placed};
+ghost use Rattle.umbrelnic.specs.Private.{placed};
 
-use image::Found;
 use profile::numbers::Refusal;
 
-// The index of the connection's slot, or why the call is refused.
-#[derive(Clone, Copy)]
-pub(crate) enum Place {
-    At(usize),
-    Refused(Refusal),
-}
-
-// A search that was made; the refusal where nothing was found.
-fn place_of(found: Found, absent: Refusal) -> Place
-    ensures { result ≡ place_of absent found }
-{
-    match found {
-        Found::At(i) => Place::At(i),
-        Found::Nothing => Place::Refused(absent),
-    }
-}
-
-// The open connection with this number.
-pub(crate) fn find_connection(image: &[u8], number: u64) -> Place
+// The index of the slot of the open connection with this number, or why the call is refused.
+#[tactic(auto, unfolding(crate::specs::Private::placed))]
+pub(crate) fn find_connection(image: &[u8], number: u64) -> Result<usize, Refusal>
     ensures { result ≡ placed NoConnection (holding (is_numbered number)) image.now }
 {
     if !image::is_taken(image) {
-        return Place::Refused(Refusal::NotTaken);
+        return Err(Refusal::NotTaken);
     }
-    place_of(image::find_connection(image, number), Refusal::NoConnection)
+    image::find_connection(image, number).ok_or(Refusal::NoConnection)
 }
 
-// The open connection that waits on this ticket.
-pub(crate) fn find_ticket(image: &[u8], ticket: u64) -> Place
+// The same of the open connection that waits on this ticket. Not one function with the search passed in: its contract would be longer than this body.
+#[tactic(auto, unfolding(crate::specs::Private::placed))]
+pub(crate) fn find_ticket(image: &[u8], ticket: u64) -> Result<usize, Refusal>
     ensures { result ≡ placed NoTicket (holding (is_waiting ticket)) image.now }
 {
     if !image::is_taken(image) {
-        return Place::Refused(Refusal::NotTaken);
+        return Err(Refusal::NotTaken);
     }
-    place_of(image::find_ticket(image, ticket), Refusal::NoTicket)
+    image::find_ticket(image, ticket).ok_or(Refusal::NoTicket)
 }

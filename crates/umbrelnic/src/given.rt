@@ -7,66 +7,78 @@ use crate::{Borne, LineAnswer, Opened, Said};
 use profile::numbers::Refusal;
 use session::answer::Numbers;
 
-pub(crate) fn not_opened(refusal: Refusal) -> Opened
-    ensures { result ≡ opened_of (refused refusal) }
-{
-    Opened {
-        refusal: refusal.number(),
-        connection: 0,
+impl From<Refusal> for Opened {
+    ghost from_gives = { λ r given. given ≡ opened_of (refused r) };
+
+    fn from(refusal: Refusal) -> Opened {
+        Opened {
+            refusal: u64::from(refusal),
+            connection: 0,
+        }
     }
 }
 
-pub(crate) fn not_answered(refusal: Refusal) -> LineAnswer
-    ensures { result ≡ line_answer_of (refused refusal) }
-{
-    LineAnswer {
-        refusal: refusal.number(),
-        kind: 0,
-        ticket: 0,
-        starts: 0,
-        length: 0,
-        identity: 0,
+impl From<Refusal> for LineAnswer {
+    ghost from_gives = { λ r given. given ≡ line_answer_of (refused r) };
+
+    fn from(refusal: Refusal) -> LineAnswer {
+        LineAnswer {
+            refusal: u64::from(refusal),
+            kind: 0,
+            ticket: 0,
+            starts: 0,
+            length: 0,
+            identity: 0,
+        }
     }
 }
 
-pub(crate) fn not_said(refusal: Refusal) -> Said
-    ensures { result ≡ said_of (refused refusal) }
-{
-    Said {
-        refusal: refusal.number(),
-        length: 0,
+impl From<Refusal> for Said {
+    ghost from_gives = { λ r given. given ≡ said_of (refused r) };
+
+    fn from(refusal: Refusal) -> Said {
+        Said {
+            refusal: u64::from(refusal),
+            length: 0,
+        }
     }
 }
 
-pub(crate) fn not_told(refusal: Refusal) -> Borne
-    ensures { result ≡ borne_of (refused refusal) }
-{
-    Borne {
-        refusal: refusal.number(),
-        signed_in: 0,
-        length: 0,
+impl From<Refusal> for Borne {
+    ghost from_gives = { λ r given. given ≡ borne_of (refused r) };
+
+    fn from(refusal: Refusal) -> Borne {
+        Borne {
+            refusal: u64::from(refusal),
+            signed_in: 0,
+            length: 0,
+        }
     }
 }
 
 // The numbers of an answer, as line and verdict give them.
-pub(crate) fn answered(numbers: Numbers) -> LineAnswer
-    ensures { result ≡ line_numbers numbers }
-{
-    LineAnswer {
-        refusal: numbers.refusal,
-        kind: numbers.kind,
-        ticket: numbers.ticket,
-        starts: numbers.starts,
-        length: numbers.length,
-        identity: numbers.identity,
+impl From<Numbers> for LineAnswer {
+    ghost from_gives = { λ n given. given ≡ line_numbers n };
+
+    fn from(numbers: Numbers) -> LineAnswer {
+        LineAnswer {
+            refusal: numbers.refusal,
+            kind: numbers.kind,
+            ticket: numbers.ticket,
+            starts: numbers.starts,
+            length: numbers.length,
+            identity: numbers.identity,
+        }
     }
 }
 
-pub(crate) fn said(numbers: Numbers) -> Said
-    ensures { result ≡ said_numbers numbers }
-{
-    Said {
-        refusal: numbers.refusal,
-        length: numbers.length,
+impl From<Numbers> for Said {
+    ghost from_gives = { λ n given. given ≡ said_numbers n };
+
+    fn from(numbers: Numbers) -> Said {
+        Said {
+            refusal: numbers.refusal,
+            length: numbers.length,
+        }
     }
 }

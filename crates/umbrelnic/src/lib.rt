@@ -11,9 +11,8 @@ ghost use Rattle.calls.specs.Numbers.{refusal};
 ghost use Rattle.calls.specs.Step.{step};
 ghost use Rattle.umbrelnic.specs.Given.{opened_of, line_answer_of, said_of, borne_of};
 
-use finding::Place;
+use profile::Profile;
 use profile::numbers::Refusal;
-use profile::{ListedProfile, Profile};
 use session::Session;
 
 mod adding;
@@ -28,9 +27,11 @@ pub const REPLY_OCTETS: usize = 12288;
 
 pub const ANSWER_OCTETS: usize = 9213;
 
+// What the calls give, as numbers alone: C gets these structs, so a refusal is its number in a field and not the error of a Result.
+//
 // What open gives.
 #[repr(C)]
-#[derive(Clone, Copy)]
+#[derive(Clone, Copy, Debug, PartialEq, Eq)]
 pub struct Opened {
     pub refusal: u64,
     pub connection: u64,
@@ -38,7 +39,7 @@ pub struct Opened {
 
 // What line gives.
 #[repr(C)]
-#[derive(Clone, Copy)]
+#[derive(Clone, Copy, Debug, PartialEq, Eq)]
 pub struct LineAnswer {
     pub refusal: u64,
     pub kind: u64,
@@ -50,7 +51,7 @@ pub struct LineAnswer {
 
 // What verdict gives.
 #[repr(C)]
-#[derive(Clone, Copy)]
+#[derive(Clone, Copy, Debug, PartialEq, Eq)]
 pub struct Said {
     pub refusal: u64,
     pub length: u64,
@@ -58,7 +59,7 @@ pub struct Said {
 
 // What who gives.
 #[repr(C)]
-#[derive(Clone, Copy)]
+#[derive(Clone, Copy, Debug, PartialEq, Eq)]
 pub struct Borne {
     pub refusal: u64,
     pub signed_in: u64,
@@ -77,7 +78,7 @@ pub fn umbrelnic_make(image: &mut [u8], connection: u64, ticket: u64) -> u64
     ensures { let did = step image.old (Call.make connection ticket) in (result ≡ refusal did.result) × (image.new ≡ did.image) }
 {
     if image.len() != image::OCTETS {
-        return Refusal::NotTaken.number();
+        return u64::from(Refusal::NotTaken);
     }
     image::make(image, connection, ticket);
     0
@@ -88,10 +89,10 @@ pub fn umbrelnic_add(image: &mut [u8], name: &[u8], client_first: u64, needs_pro
     ensures { let did = step image.old (Call.add name.now client_first needs_protection) in (result ≡ refusal did.result) × (image.new ≡ did.image) }
 {
     if !image::is_taken(image) {
-        return Refusal::NotTaken.number();
+        return u64::from(Refusal::NotTaken);
     }
     if !((client_first <= 1) & (needs_protection <= 1)) {
-        return Refusal::NotListed.number();
+        return u64::from(Refusal::NotListed);
     }
     adding::add(image, name, client_first == 1, needs_protection == 1)
 }
@@ -101,16 +102,15 @@ pub fn umbrelnic_open(image: &mut [u8], profile: u64, protected: u64) -> Opened
     ensures { let did = step image.old (Call.opens profile protected) in (result ≡ opened_of did.result) × (image.new ≡ did.image) }
 {
     if !image::is_taken(image) {
-        return given::not_opened(Refusal::NotTaken);
+        return Opened::from(Refusal::NotTaken);
     }
-    let listed = Profile::of(profile);
-    match listed {
-        ListedProfile::Unlisted => given::not_opened(Refusal::NotListed),
-        ListedProfile::Known(p) => {
+    match Profile::try_from(profile) {
+        Err(_) => Opened::from(Refusal::NotListed),
+        Ok(p) => {
             if protected <= 1 {
                 opening::enter(image, p, protected == 1)
             } else {
-                given::not_opened(Refusal::NotListed)
+                Opened::from(Refusal::NotListed)
             }
         }
     }
@@ -127,12 +127,11 @@ pub fn umbrelnic_line(
     ensures { let did = step image.old (Call.line connection line.now reply.old answer.old) in (result ≡ line_answer_of did.result) × (image.new ≡ did.image) × (reply.new ≡ reply_after did reply.old) × (answer.new ≡ answer_after did answer.old) }
 {
     if stepping::are_short(reply, answer) {
-        return given::not_answered(Refusal::ShortBuffer);
+        return LineAnswer::from(Refusal::ShortBuffer);
     }
-    let place = finding::find_connection(image, connection);
-    match place {
-        Place::Refused(refusal) => given::not_answered(refusal),
-        Place::At(i) => stepping::hear(image, i, connection, line, reply, answer),
+    match finding::find_connection(image, connection) {
+        Err(refusal) => LineAnswer::from(refusal),
+        Ok(i) => stepping::hear(image, i, connection, line, reply, answer),
     }
 }
 
@@ -148,12 +147,11 @@ pub fn umbrelnic_verdict(
     ensures { let did = step image.old (Call.verdict ticket verdict bytes.now reply.old answer.old) in (result ≡ said_of did.result) × (image.new ≡ did.image) × (reply.new ≡ reply_after did reply.old) × (answer.new ≡ answer_after did answer.old) }
 {
     if stepping::are_short(reply, answer) {
-        return given::not_said(Refusal::ShortBuffer);
+        return Said::from(Refusal::ShortBuffer);
     }
-    let place = finding::find_ticket(image, ticket);
-    match place {
-        Place::Refused(refusal) => given::not_said(refusal),
-        Place::At(i) => stepping::judge(image, i, ticket, verdict, bytes, reply),
+    match finding::find_ticket(image, ticket) {
+        Err(refusal) => Said::from(refusal),
+        Ok(i) => stepping::judge(image, i, ticket, verdict, bytes, reply),
     }
 }
 
@@ -161,10 +159,9 @@ pub fn umbrelnic_verdict(
 pub fn umbrelnic_mail_ended(image: &mut [u8], connection: u64) -> u64
     ensures { let did = step image.old (Call.mail_ended connection) in (result ≡ refusal did.result) × (image.new ≡ did.image) }
 {
-    let place = finding::find_connection(image, connection);
-    match place {
-        Place::Refused(refusal) => refusal.number(),
-        Place::At(i) => {
+    match finding::find_connection(image, connection) {
+        Err(refusal) => u64::from(refusal),
+        Ok(i) => {
             stepping::end_mail(image, i);
             0
         }
@@ -176,12 +173,11 @@ pub fn umbrelnic_who(image: &[u8], connection: u64, name: &mut [u8]) -> Borne
     ensures { let did = step image.now (Call.who connection name.old) in (result ≡ borne_of did.result) × (image.now ≡ did.image) × (name.new ≡ name_after did name.old) }
 {
     if name.len() < Session::LONGEST_NAME {
-        return given::not_told(Refusal::ShortBuffer);
+        return Borne::from(Refusal::ShortBuffer);
     }
-    let place = finding::find_connection(image, connection);
-    match place {
-        Place::Refused(refusal) => given::not_told(refusal),
-        Place::At(i) => telling::tell(image, i, name),
+    match finding::find_connection(image, connection) {
+        Err(refusal) => Borne::from(refusal),
+        Ok(i) => telling::tell(image, i, name),
     }
 }
 
@@ -189,10 +185,9 @@ pub fn umbrelnic_who(image: &[u8], connection: u64, name: &mut [u8]) -> Borne
 pub fn umbrelnic_close(image: &mut [u8], connection: u64) -> u64
     ensures { let did = step image.old (Call.close connection) in (result ≡ refusal did.result) × (image.new ≡ did.image) }
 {
-    let place = finding::find_connection(image, connection);
-    match place {
-        Place::Refused(refusal) => refusal.number(),
-        Place::At(i) => {
+    match finding::find_connection(image, connection) {
+        Err(refusal) => u64::from(refusal),
+        Ok(i) => {
             image::free_slot(image, i);
             0
         }

@@ -4,12 +4,9 @@ ghost use Rattle.server.specs.Open.{enters};
 ghost use Rattle.server.specs.Slots.{is_free};
 ghost use Rattle.calls.specs.Step.{result_in, image_in};
 ghost use Rattle.image.specs.InPlace.{is_taken, read_server, slot_found};
-ghost use Rattle.image.specs.declared.Found.TheVariants.{At};
 ghost use Rattle.umbrelnic.specs.Given.{opened_of};
 
 use crate::Opened;
-use crate::given::not_opened;
-use image::Found;
 use profile::Profile;
 use profile::numbers::Refusal;
 use server::{Connection, Header};
@@ -17,13 +14,13 @@ use session::Session;
 
 // In the slot at index i, the lowest that is free.
 fn enter_in(image: &mut [u8], i: usize, profile: Profile, protected: bool) -> Opened
-    requires { (is_taken image.old ≡ true) × (slot_found is_free image.old ≡ At i) }
+    requires { (is_taken image.old ≡ true) × (slot_found is_free image.old ≡ Some i) }
     ensures { (result ≡ opened_of (result_in (enters (read_server image.old) profile protected))) × (image.new ≡ image_in image.old (enters (read_server image.old) profile protected)) }
 {
     let header = image::read_header(image);
     let number = header.connection;
     if number == Session::UNISSUED {
-        return not_opened(Refusal::Exhausted);
+        return Opened::from(Refusal::Exhausted);
     }
     let session = Session::opened(profile, protected);
     image::write_connection(image, i, Connection { session, number });
@@ -45,7 +42,7 @@ pub(crate) fn enter(image: &mut [u8], profile: Profile, protected: bool) -> Open
 {
     let found = image::find_free(image);
     match found {
-        Found::Nothing => not_opened(Refusal::Full),
-        Found::At(i) => enter_in(image, i, profile, protected),
+        None => Opened::from(Refusal::Full),
+        Some(i) => enter_in(image, i, profile, protected),
     }
 }

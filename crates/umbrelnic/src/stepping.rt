@@ -9,21 +9,17 @@ ghost use Rattle.session.specs.Answer.{heard, numbers};
 ghost use Rattle.session.specs.Limits.{reply_buffer, answer_buffer, unissued};
 ghost use Rattle.session.specs.Octets.{mechanism_text, response_text};
 ghost use Rattle.session.specs.Standing.{is_refused};
-ghost use Rattle.server.specs.Line.{is_query, is_address, relays_address};
+ghost use Rattle.server.specs.Line.{is_query, relays_address};
 ghost use Rattle.server.specs.Mechanisms.{listed, offered};
 ghost use Rattle.server.specs.Slots.{is_numbered, is_waiting, holding};
 ghost use Rattle.image.specs.InPlace.{is_taken, mechanisms_read, connection_read, slot_found, slot_written};
-ghost use Rattle.image.specs.declared.Found.TheVariants.{At};
-ghost use Rattle.profile.specs.declared.numbers.ListedVerdict.TheVariants.{Known};
 ghost use Rattle.calls.specs.Call as Call;
 ghost use Rattle.calls.specs.Call.{is_short};
 ghost use Rattle.umbrelnic.specs.Private.{ended, kept_in, issued_in, handed_in, LineDone, Judged};
 
-use crate::given::{answered, not_said, said};
 use crate::{ANSWER_OCTETS, LineAnswer, REPLY_OCTETS, Said};
-use octets::Encoded;
 use profile::Profile;
-use profile::numbers::{Identity, ListedVerdict, Refusal, Verdict};
+use profile::numbers::{Identity, Refusal, Verdict};
 use server::{Connection, Header};
 use session::Stepped;
 use session::answer::{Answer, Numbers};
@@ -36,7 +32,7 @@ pub(crate) fn are_short(reply: &[u8], answer: &[u8]) -> bool
     !((REPLY_OCTETS <= reply.len()) & (ANSWER_OCTETS <= answer.len()))
 }
 
-// ---- the image
+// ---- the image, which each of these requires to be taken: a type that says so would have to hold again before each of the writes of one step
 
 // The transaction of the connection in the slot at index i is over.
 pub(crate) fn end_mail(image: &mut [u8], i: usize)
@@ -54,51 +50,25 @@ pub(crate) fn end_mail(image: &mut [u8], i: usize)
 fn is_refused(answer: Answer) -> bool
     ensures { result ≡ is_refused answer }
 {
-    match answer {
-        Answer::Refused(_) => true,
-        Answer::Forward { .. } => false,
-        Answer::Query { .. } => false,
-        Answer::Reply(_) => false,
-        Answer::EmptyChallenge => false,
-        Answer::Challenge => false,
-    }
+    matches!(answer, Answer::Refused(_))
 }
 
 fn is_query(answer: Answer) -> bool
     ensures { result ≡ is_query answer }
 {
-    match answer {
-        Answer::Refused(_) => false,
-        Answer::Forward { .. } => false,
-        Answer::Query { .. } => true,
-        Answer::Reply(_) => false,
-        Answer::EmptyChallenge => false,
-        Answer::Challenge => false,
-    }
-}
-
-fn is_address(identity: Identity) -> bool
-    ensures { result ≡ is_address identity }
-{
-    match identity {
-        Identity::NoMail => false,
-        Identity::Null => false,
-        Identity::Absent => false,
-        Identity::Address => true,
-    }
+    matches!(answer, Answer::Query { .. })
 }
 
 fn relays_address(answer: Answer) -> bool
     ensures { result ≡ relays_address answer }
 {
-    match answer {
-        Answer::Refused(_) => false,
-        Answer::Forward { identity, .. } => is_address(identity),
-        Answer::Query { .. } => false,
-        Answer::Reply(_) => false,
-        Answer::EmptyChallenge => false,
-        Answer::Challenge => false,
-    }
+    matches!(
+        answer,
+        Answer::Forward {
+            identity: Identity::Address,
+            ..
+        }
+    )
 }
 
 // Keeps what a step made of a connection, in the slot at index i. A step that was refused leaves the image as it is.
@@ -141,7 +111,7 @@ fn hand_over(answer: Answer, view: View, line: &[u8], out: &mut [u8])
         return;
     }
     if relays_address(answer) {
-        view.decode_address(line, out);
+        let _ = view.decode_address(line, out);
     }
 }
 
@@ -152,15 +122,15 @@ fn respond(answer: Answer, profile: Profile, bytes: &[u8], reply: &mut [u8]) -> 
 {
     let said = answer.say(profile, bytes, reply);
     match said {
-        Encoded::End(end) => answer.numbers(end),
-        Encoded::Short => answer.numbers(0),
+        Some(end) => answer.numbers(end),
+        None => answer.numbers(0),
     }
 }
 
 // ---- a line and a verdict
 
 // What the server has of the mechanism that a line names.
-fn offer_for(image: &[u8], view: View, line: &[u8]) -> Offer
+fn offer_for(image: &[u8], view: View, line: &[u8]) -> Option<Offer>
     ensures { result ≡ offered (listed (mechanisms_read image.now)) (padded (mechanism_text view line.now)) }
 {
     let table = image::read_mechanisms(image);
@@ -176,7 +146,7 @@ pub(crate) fn hear(
     reply: &mut [u8],
     answer: &mut [u8],
 ) -> LineAnswer
-    requires { (is_taken image.old ≡ true) × (slot_found (holding (is_numbered number)) image.old ≡ At i) × (is_short (Call.line number line.now reply.old answer.old) ≡ false) }
+    requires { (is_taken image.old ≡ true) × (slot_found (holding (is_numbered number)) image.old ≡ Some i) × (is_short (Call.line number line.now reply.old answer.old) ≡ false) }
     ensures { LineDone image.old number line.now reply.old answer.old result image.new reply.new answer.new }
 {
     let connection = image::read_connection(image, i);
@@ -190,7 +160,7 @@ pub(crate) fn hear(
     keep(image, i, number, stepped);
     issue(image, header, given);
     hand_over(given, view, line, answer);
-    answered(respond(given, profile, b"", reply))
+    LineAnswer::from(respond(given, profile, b"", reply))
 }
 
 // A verdict on this ticket, on which the connection in the slot at index i waits.
@@ -202,8 +172,8 @@ fn rule(
     bytes: &[u8],
     reply: &mut [u8],
 ) -> Said
-    requires { (is_taken image.old ≡ true) × (slot_found (holding (is_waiting ticket)) image.old ≡ At i) × (reply_buffer ≤ length reply.old) }
-    ensures { Judged image.old ticket (Known verdict) bytes.now reply.old result image.new reply.new }
+    requires { (is_taken image.old ≡ true) × (slot_found (holding (is_waiting ticket)) image.old ≡ Some i) × (reply_buffer ≤ length reply.old) }
+    ensures { Judged image.old ticket (Ok verdict) bytes.now reply.old result image.new reply.new }
 {
     let connection = image::read_connection(image, i);
     let session = connection.session;
@@ -211,7 +181,7 @@ fn rule(
     let stepped = session.verdict(ticket, verdict, bytes);
     let given = stepped.answer;
     keep(image, i, connection.number, stepped);
-    said(respond(given, profile, bytes, reply))
+    Said::from(respond(given, profile, bytes, reply))
 }
 
 // A verdict by its number.
@@ -223,12 +193,12 @@ pub(crate) fn judge(
     bytes: &[u8],
     reply: &mut [u8],
 ) -> Said
-    requires { (is_taken image.old ≡ true) × (slot_found (holding (is_waiting ticket)) image.old ≡ At i) × (reply_buffer ≤ length reply.old) }
+    requires { (is_taken image.old ≡ true) × (slot_found (holding (is_waiting ticket)) image.old ≡ Some i) × (reply_buffer ≤ length reply.old) }
     ensures { Judged image.old ticket (verdict_of verdict) bytes.now reply.old result image.new reply.new }
 {
-    let listed = Verdict::of(verdict);
+    let listed = Verdict::try_from(verdict);
     match listed {
-        ListedVerdict::Unlisted => not_said(Refusal::NotListed),
-        ListedVerdict::Known(v) => rule(image, i, ticket, v, bytes, reply),
+        Err(_) => Said::from(Refusal::NotListed),
+        Ok(v) => rule(image, i, ticket, v, bytes, reply),
     }
 }

@@ -10,7 +10,6 @@ ghost use Rattle.image.specs.InPlace.{connection_read};
 ghost use Rattle.umbrelnic.specs.Given.{borne_of};
 
 use crate::Borne;
-use octets::Encoded;
 use session::Session;
 
 // Of a session.
@@ -26,7 +25,7 @@ fn tell_of(session: Session, name: &mut [u8]) -> Borne
     if session.is_signed_in() {
         told.signed_in = 1;
         let end = session.write_name(name);
-        if let Encoded::End(length) = end {
+        if let Some(length) = end {
             told.length = length as u64;
         }
     }

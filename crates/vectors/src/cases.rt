@@ -4,24 +4,37 @@
 // In any other row s or p is the profile, and then: l such lines; r responses; e an index, and a line with each octet there;
 // n how many octets, and how the line begins that letters follow; m how many octets of a MAIL line; a how many letters of a response;
 // h a line far over every limit.
-use crate::each::{lines, responses};
 use crate::octet_counts::with_each;
-use crate::{long, number_cases};
+use crate::{long, number_cases, readings};
 use profile::Profile;
+use profile::numbers::Verdict;
 use std::io;
-use textvectors::show::put;
 use textvectors::words::{index, number, octet, rest};
 
+// Each line, or each response, of a list with "|" between them. Two loops: a row passed in would be a closure over the runtime, and no shorter.
+fn lines(rt: &impl Print, p: Profile, list: &[u8]) -> io::Result<()> {
+    for line in list.split(|x| *x == b'|') {
+        readings::line(rt, p, line)?;
+    }
+    Ok(())
+}
+
+fn responses(rt: &impl Print, p: Profile, list: &[u8]) -> io::Result<()> {
+    for text in list.split(|x| *x == b'|') {
+        readings::response(rt, p, text)?;
+    }
+    Ok(())
+}
+
 fn both(rt: &impl Print, list: &[u8]) -> io::Result<()> {
-    lines(rt, Profile::smtp(), list)?;
-    lines(rt, Profile::pop3(), list)
+    lines(rt, Profile::Smtp, list)?;
+    lines(rt, Profile::Pop3, list)
 }
 
 fn profile(text: &[u8]) -> Profile {
-    if octet(text, 0) == b'p' {
-        Profile::pop3()
-    } else {
-        Profile::smtp()
+    match text {
+        [b'p', ..] => Profile::Pop3,
+        _ => Profile::Smtp,
     }
 }
 
@@ -35,7 +48,7 @@ fn on_profile(rt: &impl Print, kind: u8, p: Profile, text: &[u8]) -> io::Result<
         b'm' => long::mail(rt, p, n),
         b'a' => long::response(rt, p, n),
         b'h' => long::huge(rt, p),
-        _ => put(rt, b"not done\n"),
+        _ => println!(rt; "not done"),
     }
 }
 
@@ -43,19 +56,16 @@ fn case(rt: &impl Print, row: &[u8]) -> io::Result<()> {
     let kind = octet(row, 0);
     let text = octets::part(row, 2, row.len());
     match kind {
-        b'f' => number_cases::profile_row(rt, number(text, 0)),
-        b'v' => number_cases::verdict_row(rt, number(text, 0)),
+        b'f' => number_cases::row::<Profile>(rt, "profile", number(text, 0)),
+        b'v' => number_cases::row::<Verdict>(rt, "verdict", number(text, 0)),
         b'b' => both(rt, text),
         _ => on_profile(rt, kind, profile(text), text),
     }
 }
 
 fn each(rt: &impl Print, list: &[u8]) -> io::Result<()> {
-    let mut from: usize = 0;
-    while from <= list.len() {
-        let to = octets::find(list, from, b';');
-        case(rt, octets::part(list, from, to))?;
-        from = to + 1;
+    for row in list.split(|x| *x == b';') {
+        case(rt, row)?;
     }
     Ok(())
 }

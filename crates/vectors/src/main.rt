@@ -2,7 +2,6 @@
 #![tactic(auto)]
 
 mod cases;
-mod each;
 mod long;
 mod number_cases;
 mod octet_counts;

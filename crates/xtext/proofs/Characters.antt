@@ -1,17 +1,17 @@
 -- The digits, and what the reader looks up of an octet. Assumes nothing.
 use mathlib.Core.Path.{◌≡◌, refl, sym, ◌∙◌}
-use mathlib.Core.Bool.{Bool, true, false, cond, ◌&&◌, and-false, false≢true}
+use mathlib.Core.Bool.{Bool, true, false, cond, false≢true}
 use mathlib.Core.List.{List}
-use Prim.Native.Nat.{ℕ, ◌+◌, ◌/◌, ◌%◌, ◌<◌, ◌≤◌}
+use Prim.Native.Nat.{ℕ, ◌/◌, ◌%◌, ◌<◌, ◌≤◌}
 use native.Mathlib.Omega.{arith}
 use borrow.Author.Tests.{lt-ltb, ltb-true}
-use lib.Dec.{ltb, eqb}
+use lib.Dec.{ltb}
 use lib.ListN.{length, get_or, get_or-eq_default}
 use Rattle.octets.proofs.Table.{at}
-use Rattle.octets.proofs.Cases.{T_true}
-use Rattle.octets.proofs.Alphabet.{get_d_index, index_get_d, index-most}
+use Rattle.octets.proofs.Cases.{T_true, below, both}
+use Rattle.octets.proofs.Alphabet.{get_d_index, index_get_d, index-most, looked-up}
 use Rattle.xtext.specs.Xtext.{xchar, digits, digit, number, hexdig, hexchar, plus}
-use Rattle.xtext.specs.Private.{kind, hexchar_at}
+use Rattle.xtext.specs.Private.{kind, kinds, begins}
 
 -- a digit and its number
 pub number-digit : (v : ℕ) → v < 16 → number (digit v) ≡ v
@@ -45,17 +45,17 @@ module _ (x : ℕ) where
       omega (arith, p, q)
 
   -- an octet's kind
-  pub kind-xchar : ltb (kind x) 17 ≡ xchar x
+  pub kind_xchar : ltb (kind x) 17 ≡ xchar x
   unfolding kind
-  kind-xchar = go (xchar x)
+  kind_xchar = go (xchar x)
     where
       go : (b : Bool) → ltb (cond b (number x) 17) 17 ≡ b
       go true = lt-ltb (number x) 17 (omega (arith, number-most x))
       go false = refl
 
-  pub kind-hexdig : ltb (kind x) 16 ≡ hexdig x
+  pub kind_hexdig : ltb (kind x) 16 ≡ hexdig x
   unfolding kind
-  kind-hexdig = go (xchar x) refl
+  kind_hexdig = go (xchar x) refl
     where
       no_digit : (b : Bool) → hexdig x ≡ b → xchar x ≡ false → false ≡ b
       no_digit true h e = sym e ∙ digit-xchar (ltb-true _ _ h)
@@ -65,11 +65,21 @@ module _ (x : ℕ) where
       go true e = refl
       go false e = no_digit (hexdig x) refl e
 
-  pub kind-number : number x < 16 → kind x ≡ number x
+  pub kind_number : number x < 16 → kind x ≡ number x
   unfolding kind
-  kind-number h = rw (digit-xchar h)
+  kind_number h = rw (digit-xchar h)
+
+-- an octet's kind is looked up
+pub kind_at : (l : List ℕ) (x : ℕ) → l ≡ kinds → x < 256 → get_or l x 0 ≡ kind x
+unfolding kinds
+kind_at l x e h = looked-up kind l x _ e h refl
 
 -- past the end there is no digit
-pub no_end : (t : List ℕ) (i : ℕ) → length t ≤ i + 2 → false ≡ hexchar_at t i
+pub past_end : (t : List ℕ) (i : ℕ) → length t ≤ i → hexdig (get_or t i 0) ≡ false
 unfolding number digits
-no_end t i e = rw (get_or-eq_default t 0 {n = i + 2} e) (sym (and-false (eqb (get_or t i 0) plus && hexdig (get_or t (i + 1) 0))))
+past_end t i h = rw (get_or-eq_default t 0 {n = i} h)
+
+-- so a hexchar is whole
+pub begins_long : (t : List ℕ) → begins t ≡ true → 3 ≤ length t
+unfolding begins
+begins_long t e = below (length t) 3 (λ h. absurd (false≢true (sym (past_end t 2 (omega arith)) ∙ (both _ (hexdig (get_or t 2 0)) e).1))) (λ h. h)

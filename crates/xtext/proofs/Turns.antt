@@ -1,152 +1,134 @@
 -- A turn of the loops over a text and over octets. Assumes nothing.
-use mathlib.Core.Path.{◌≡◌, refl, sym, ◌∙◌, ap}
-use mathlib.Core.Bool.{Bool, true, false, cond, ◌&&◌, false≢true}
+use mathlib.Core.Path.{◌≡◌, refl}
+use mathlib.Core.Bool.{Bool, true, false, cond, ◌&&◌}
 use mathlib.Core.List.{List, [], ◌∷◌, ◌++◌}
-use Prim.Native.Nat.{ℕ, suc, ◌+◌, ◌/◌, ◌%◌, ◌<◌, ◌≤◌}
+use Prim.Native.Nat.{ℕ, suc, ◌+◌, ◌-◌, ◌*◌, ◌<◌, ◌≤◌}
 use native.Mathlib.Nat.{add-zero, not-suc-le-zero}
 use native.Mathlib.Numerals.{add-one}
 use native.Mathlib.Omega.{arith}
 use lib.Dec.{eqb}
-use lib.ListN.{length, get_or, set, drop, length-drop, length-append, length-set, drop_of_length-le}
-use lib.Seq.{get_or-drop, drop-drop, drop-cons, sets}
-use Rattle.octets.specs.declared.Measured.{Measured}
-use Rattle.octets.proofs.Answers.{resumed, one_more}
-use Rattle.octets.proofs.Cases.{below, both, split}
-use Rattle.octets.proofs.Lists.{drop-three}
-use Rattle.xtext.specs.Xtext.{xchar, digit, number, hexdig, hexchar, plus, valid, octets, measured, encode}
-use Rattle.xtext.specs.Private.{hexchar_at, spelling}
-use Rattle.xtext.proofs.Characters.{xchar-not-plus, no_end}
-use Rattle.xtext.proofs.Grammar.{Xtext, none, self, escape, valid-self, octets-self, encode-self, encode-escape}
+use lib.ListN.{length, get_or, take, drop, length-drop, drop_of_length-le}
+use lib.Seq.{get_or-drop, drop-drop, drop-cons, sets-eq}
+use Rattle.std.specs.Prelude.{Option, Some, None, not, count_by}
+use Rattle.std.proofs.lemmas.Grind.{common_steps}
+use Rattle.std.proofs.lemmas.List.{drop_more, take_all}
+use Rattle.octets.proofs.Answers.{resumed, resumed-zero, one_more}
+use Rattle.octets.proofs.Cases.{both, split}
+use Rattle.octets.proofs.Lists.{sets-append}
+use Rattle.xtext.specs.Xtext.{xchar, number, hexdig, hexchar, plus, valid, octets, measured, encode}
+use Rattle.xtext.specs.Private.{begins}
+use Rattle.xtext.proofs.Characters.{xchar-not-plus, begins_long}
+use Rattle.xtext.proofs.Grammar.{Xtext, none, self, escape, valid-self, octets-self, grammar, is-valid}
 
 -- the measure of a text of which n octets are read
-abbrev pub from : ℕ → List ℕ → Measured
+unfoldable pub from : ℕ → List ℕ → Option ℕ
 from n l = resumed n (valid l) (octets l)
 
-neither : (l : List ℕ) → 0 < length l → xchar (get_or l 0 0) ≡ false → hexchar_at l 0 ≡ false → valid l ≡ false
-unfolding valid
-neither [] h e f = absurd (not-suc-le-zero h)
-neither (x ∷ []) h e f = e
-neither (x ∷ y ∷ []) h e f = rw e
-neither (x ∷ y ∷ z ∷ r) h e f = rw e (go (eqb x plus) (hexdig y) (hexdig z) f)
+pub starts : (t : List ℕ) → from 0 t ≡ measured t
+unfolding from
+starts t = resumed-zero (valid t) (octets t)
+
+-- a turn over an xchar, over a hexchar, and where neither stands
+xchar-first : (n : ℕ) (x : ℕ) (l : List ℕ) → xchar x ≡ true → from n (x ∷ l) ≡ from (n + 1) l
+unfolding from
+xchar-first n x l e = rw (valid-self x e l, octets-self x e l) (one_more (valid l) n x (octets l))
+
+hexchar-first : (n : ℕ) (l : List ℕ) → 3 ≤ length l → begins l ≡ true → from n l ≡ from (n + 1) (drop 3 l)
+unfolding from begins valid octets
+hexchar-first n [] h e = absurd (omega arith)
+hexchar-first n (x ∷ []) h e = absurd (omega arith)
+hexchar-first n (x ∷ y ∷ []) h e = absurd (omega arith)
+hexchar-first n (x ∷ y ∷ z ∷ r) h e =
+    let a = both _ (hexdig z) e in
+    let b = both (eqb x plus) (hexdig y) a.0 in
+    rw (b.0, b.1, a.1) (one_more (valid r) n (hexchar y z) (octets r))
+
+none-first : (n : ℕ) (x : ℕ) (l : List ℕ) → xchar x ≡ false → begins (x ∷ l) ≡ false → from n (x ∷ l) ≡ None
+unfolding from begins valid
+none-first n x [] e f = rw e
+none-first n x (y ∷ []) e f = rw e
+none-first n x (y ∷ z ∷ r) e f = rw e (go (eqb x plus) (hexdig y) (hexdig z) f)
   where
-    go : (a b c : Bool) → (a && b && c) ≡ false → cond a (b && c && valid r) false ≡ false
+    go : (a b c : Bool) → (a && b && c) ≡ false → resumed n (cond a (b && c && valid r) false) (octets (x ∷ y ∷ z ∷ r)) ≡ None
     go true b c g = rw g
     go false b c g = refl
 
--- a turn over an xchar, over a hexchar, and where neither stands
-module _ (t : List ℕ) (i n : ℕ) (inv : from n (drop i t) ≡ measured t) (h : i < length t) where
-  pub xchar-turn : xchar (get_or t i 0) ≡ true → from (n + 1) (drop (i + 1) t) ≡ measured t
-  xchar-turn e =
-      let d = drop-cons t i 0 h in
-      rw add-one (sym (one_more (valid (drop (suc i) t)) n (get_or t i 0) (octets (drop (suc i) t)))
-      ∙ (rw (d, valid-self (get_or t i 0) e (drop (suc i) t), octets-self (get_or t i 0) e (drop (suc i) t)) at inv))
+-- at index i of a text, of which k octets so far are more than what it stands for
+module _ (t : List ℕ) (i k : ℕ) where
+  pub xchar_turn : k ≤ i → i < length t → xchar (get_or t i 0) ≡ true → from (i - k) (drop i t) ≡ from (i + 1 - k) (drop (i + 1) t)
+  xchar_turn h p e =
+      let z : i - k + 1 ≡ i + 1 - k = omega arith in
+      rw (drop_more t i 0 p, ← z) (xchar-first (i - k) (get_or t i 0) (drop (i + 1) t) e)
 
-  pub hexchar-turn : hexchar_at t i ≡ true → from (n + 1) (drop (i + 3) t) ≡ measured t
-  unfolding valid octets
-  hexchar-turn e =
-      let a = both _ (hexdig (get_or t (i + 2) 0)) e in
-      let b = both (eqb (get_or t i 0) plus) (hexdig (get_or t (i + 1) 0)) a.0 in
-      let g : i + 3 ≤ length t = below (i + 2) (length t) (λ k. omega arith) (λ k. absurd (false≢true (no_end t i k ∙ e))) in
-      sym (one_more (valid (drop (i + 3) t)) n (hexchar (get_or t (i + 1) 0) (get_or t (i + 2) 0)) (octets (drop (i + 3) t)))
-      ∙ (rw (drop-three t i g, b.0, b.1, a.1) at inv)
+  -- the rest of the text, as code cuts it out
+  rest : take (length t - i) (drop i t) ≡ drop i t
+  rest = take_all (length t - i) (drop i t) (simp length-drop (omega arith))
 
-  pub no-turn : xchar (get_or t i 0) ≡ false → hexchar_at t i ≡ false → Measured.Malformed ≡ measured t
-  no-turn e f = rw (neither (drop i t) (simp length-drop (omega arith)) (simp (get_or-drop, add-zero) e) (simp (get_or-drop, add-zero) f)) at inv
+  pub hexchar_turn : k ≤ i → begins (take (length t - i) (drop i t)) ≡ true → (from (i - k) (drop i t) ≡ from (i + 3 - (k + 2)) (drop (i + 3) t)) × (i + 3 ≤ length t)
+  hexchar_turn h e =
+      let f = rw rest at e in
+      let z : i - k + 1 ≡ i + 3 - (k + 2) = omega arith in
+      let p = begins_long (drop i t) f in
+      (rw (← z) (simp drop-drop at (hexchar-first (i - k) (drop i t) p f)), omega (arith, p, length-drop i t))
 
-pub finished : (t : List ℕ) (i n : ℕ) → from n (drop i t) ≡ measured t → length t ≤ i → Measured.Length n ≡ measured t
-unfolding valid octets
-finished t i n inv h = rw (drop_of_length-le t {i = i} h, add-zero) at inv
+  pub no_turn : i < length t → xchar (get_or t i 0) ≡ false → begins (take (length t - i) (drop i t)) ≡ false → from (i - k) (drop i t) ≡ None
+  no_turn p e f = let d = drop_more t i 0 p in rw d (none-first (i - k) (get_or t i 0) (drop (i + 1) t) e (rw (rest, d) at f))
 
--- in xtext: v stands at i and takes w octets of the text
-pub record Stands (t : List ℕ) (i w v : ℕ) : Type 0 where
-  pub octet : octets (drop i t) ≡ v ∷ octets (drop (i + w) t)
-  pub rest : Xtext (drop (i + w) t)
+  pub finished : length t ≤ i → from (i - k) (drop i t) ≡ Some (i - k)
+  unfolding from valid octets
+  finished p = rw (drop_of_length-le t {i = i} p, add-zero)
 
-pub record Escape (t : List ℕ) (i : ℕ) : Type 0 where
-  pub whole : i + 3 ≤ length t
-  pub first : number (get_or t (i + 1) 0) < 16
-  pub second : number (get_or t (i + 2) 0) < 16
-  pub stands : Stands t i 3 (hexchar (get_or t (i + 1) 0) (get_or t (i + 2) 0))
+-- in a valid text an xchar or a hexchar stands first
+self-first : {l : List ℕ} → Xtext l → 0 < length l → (get_or l 0 0 ≡ plus → ⊥) → (octets l ≡ get_or l 0 0 ∷ octets (drop 1 l)) × (valid (drop 1 l) ≡ true)
+self-first none h e = absurd (not-suc-le-zero h)
+self-first (self {x} {l} k r) h e = (octets-self x k l, is-valid r)
+self-first (escape p q r) h e = absurd (e refl)
 
-front-escape : {l : List ℕ} → Xtext l → get_or l 0 0 ≡ plus
-    → (3 ≤ length l) × (number (get_or l 1 0) < 16) × (number (get_or l 2 0) < 16) × (octets l ≡ hexchar (get_or l 1 0) (get_or l 2 0) ∷ octets (drop 3 l)) × Xtext (drop 3 l)
+escape-first : {l : List ℕ} → Xtext l → get_or l 0 0 ≡ plus
+    → (octets l ≡ hexchar (get_or l 1 0) (get_or l 2 0) ∷ octets (drop 3 l)) × (valid (drop 3 l) ≡ true) × (3 ≤ length l) × (number (get_or l 1 0) < 16) × (number (get_or l 2 0) < 16)
 unfolding octets
-front-escape none e = absurd (omega arith)
-front-escape (self {x} {l} h r) e = absurd (xchar-not-plus x h e)
-front-escape (escape {y} {z} {l} p q r) e = (omega arith, p, q, refl, r)
+escape-first none e = absurd (omega arith)
+escape-first (self {x} {l} h r) e = absurd (xchar-not-plus x h e)
+escape-first (escape {y} {z} {l} p q r) e = (refl, is-valid r, omega arith, p, q)
 
-front_self : {l : List ℕ} → Xtext l → 0 < length l → (get_or l 0 0 ≡ plus → ⊥) → (octets l ≡ get_or l 0 0 ∷ octets (drop 1 l)) × Xtext (drop 1 l)
-front_self none h e = absurd (not-suc-le-zero h)
-front_self (self {x} {l} k r) h e = (octets-self x k l, r)
-front_self (escape p q r) h e = absurd (e refl)
+module _ (t : List ℕ) (i : ℕ) (v : valid (drop i t) ≡ true) where
+  pub self_stands : i < length t → (get_or t i 0 ≡ plus → ⊥) → (octets (drop i t) ≡ get_or t i 0 ∷ octets (drop (i + 1) t)) × (valid (drop (i + 1) t) ≡ true)
+  self_stands h e = simp (get_or-drop, drop-drop, add-zero) at (self-first (grammar (drop i t) v) (simp length-drop (omega arith)) (simp (get_or-drop, add-zero) e))
 
-module _ (t : List ℕ) (i : ℕ) (x : Xtext (drop i t)) where
-  pub is-escape : get_or t i 0 ≡ plus → Escape t i
-  is-escape e =
-      let h = front-escape x (simp (get_or-drop, add-zero) e) in
-      record {
-        whole = omega (arith, simp length-drop at h.0);
-        first = simp get_or-drop at h.1;
-        second = simp get_or-drop at h.2;
-        stands = record { octet = simp (get_or-drop, drop-drop) at h.3; rest = simp drop-drop at h.4 };
-      }
+  pub escape_stands : get_or t i 0 ≡ plus
+      → (octets (drop i t) ≡ hexchar (get_or t (i + 1) 0) (get_or t (i + 2) 0) ∷ octets (drop (i + 3) t)) × (valid (drop (i + 3) t) ≡ true)
+      × (i + 3 ≤ length t) × (number (get_or t (i + 1) 0) < 16) × (number (get_or t (i + 2) 0) < 16)
+  escape_stands e =
+      let h = simp (get_or-drop, drop-drop) at (escape-first (grammar (drop i t) v) (simp (get_or-drop, add-zero) e)) in
+      (h.0, h.1, omega (arith, h.2, length-drop i t), h.3, h.4)
 
-  pub is-self : i < length t → (get_or t i 0 ≡ plus → ⊥) → Stands t i 1 (get_or t i 0)
-  is-self h e =
-      let k = front_self x (simp length-drop (omega arith)) (simp (get_or-drop, add-zero) e) in
-      record { octet = simp (get_or-drop, drop-drop, add-zero) at k.0; rest = simp drop-drop at k.1 }
-
--- a turn that writes: n octets are written before v
-pub record Filled (t o₀ o : List ℕ) (n i : ℕ) : Type 0 where
-  pub size : length o ≡ length o₀
-  pub count : n + length (octets (drop i t)) ≡ length (octets t)
-  pub buffer : sets o n (octets (drop i t)) ≡ sets o₀ 0 (octets t)
-  pub text : Xtext (drop i t)
-
-module _ (t o₀ o : List ℕ) (n i : ℕ) (f : Filled t o₀ o n i) (w v : ℕ) (s : Stands t i w v) where
-  pub fits : n < length (octets t)
-  fits = omega (arith, f.count, ap length s.octet)
-
-  pub filled : (o' : List ℕ) (i' : ℕ) → o' ≡ set o n v → i' ≡ i + w → Filled t o₀ o' (n + 1) i'
-  filled o' i' e g = rw (e, g) record {
-    size = simp length-set f.size;
-    count = omega (arith, f.count, ap length s.octet);
-    buffer = rw add-one (rw s.octet at f.buffer);
-    text = s.rest;
-  }
-
-pub all-filled : (t o₀ o : List ℕ) (n i : ℕ) → Filled t o₀ o n i → length t ≤ i → o ≡ sets o₀ 0 (octets t)
+pub no_octets : (t : List ℕ) (i : ℕ) → length t ≤ i → octets (drop i t) ≡ []
 unfolding octets
-all-filled t o₀ o n i f h = rw (drop_of_length-le t {i = i} h) at f.buffer
+no_octets t i h = rw (drop_of_length-le t {i = i} h)
 
--- the writer
-pub spell-self : (x : ℕ) → xchar x ≡ true → x ∷ [] ≡ spelling x
-unfolding spelling
-spell-self x e = rw e
-
-pub spell-escape : (x : ℕ) → xchar x ≡ false → plus ∷ digit (x / 16) ∷ digit (x % 16) ∷ [] ≡ spelling x
-unfolding spelling
-spell-escape x e = rw e
-
-encode-cons : (x : ℕ) (l : List ℕ) → encode (x ∷ l) ≡ spelling x ++ encode l
-encode-cons x l =
-    split (xchar x) (λ e. rw (← (spell-self x e)) (encode-self x l e)) (λ e. rw (← (spell-escape x e)) (encode-escape x l e))
-
--- a text is at least as long as what it stands for
-pub encode-longer : (l : List ℕ) → length l ≤ length (encode l)
+-- the writer: the text of an octet and of the octets after it
+encode-cons : (x : ℕ) (l : List ℕ) → encode (x ∷ l) ≡ encode (x ∷ []) ++ encode l
 unfolding encode
-encode-longer [] = omega arith
-encode-longer (x ∷ l) =
-    let ih = encode-longer l in
-    split (xchar x) (λ e. rw (encode-self x l e) (omega (arith, ih))) (λ e. rw (encode-escape x l e) (omega (arith, ih)))
+encode-cons x l = split (xchar x) (λ e. rw e) (λ e. rw e)
 
-module _ (l : List ℕ) (i : ℕ) where
-  pub encode-turn : i < length l → encode (drop i l) ≡ spelling (get_or l i 0) ++ encode (drop (i + 1) l)
-  encode-turn h = rw (add-one, drop-cons l i 0 h) (encode-cons (get_or l i 0) (drop (suc i) l))
+pub encode_turn : (l : List ℕ) (i : ℕ) → i < length l → encode (drop i l) ≡ encode (get_or l i 0 ∷ []) ++ encode (drop (i + 1) l)
+encode_turn l i h = rw (add-one, drop-cons l i 0 h) (encode-cons (get_or l i 0) (drop (suc i) l))
 
-  pub length-turn : i < length l → length (encode (drop i l)) ≡ length (spelling (get_or l i 0)) + length (encode (drop (i + 1) l))
-  length-turn h = ap length (encode-turn h) ∙ simp length-append
+pub encode_end : (l : List ℕ) (i : ℕ) → length l ≤ i → encode (drop i l) ≡ []
+unfolding encode
+encode_end l i h = rw (drop_of_length-le l {i = i} h)
 
-  pub encode-end : length l ≤ i → encode (drop i l) ≡ []
-  unfolding encode
-  encode-end h = rw (drop_of_length-le l {i = i} h)
+-- an escape is two octets longer than what it stands for
+pub length_encode : (l : List ℕ) → length l + count_by (λ x. not (xchar x)) l * 2 ≡ length (encode l)
+unfolding encode
+length_encode [] = refl
+length_encode (x ∷ l) = split (xchar x) (λ e. grind (arith, common_steps, length_encode l)) (λ e. grind (arith, common_steps, length_encode l))
+
+-- what the check tries at a turn of measure, at decode's end and at a turn of spell
+pub ruleset measuring = (common_steps, starts, xchar_turn, hexchar_turn, no_turn, finished)
+
+pub ruleset filling = (common_steps, self_stands, escape_stands, no_octets)
+
+pub ruleset stored = (common_steps, sets-eq)
+
+pub ruleset writing = (common_steps, encode_turn, encode_end, sets-append)

@@ -1,73 +1,51 @@
 -- A text read one character after the other: the character at an index, and what it says of the text from there on. Assumes nothing.
 use mathlib.Core.Path.{◌≡◌, refl, sym, ◌∙◌, ap}
-use mathlib.Core.Bool.{Bool, true, false, cond, ◌&&◌}
+use mathlib.Core.Bool.{Bool, true, false, cond, ◌&&◌, and-false}
 use mathlib.Core.List.{List, [], ◌∷◌}
-use Prim.Native.Nat.{ℕ, suc, ◌+◌, ◌<◌, ◌≤◌}
-use native.Mathlib.Numerals.{add-one, add-two}
+use Prim.Native.Nat.{ℕ, ◌+◌, ◌-◌, ◌<◌, ◌≤◌}
 use native.Mathlib.Omega.{arith}
-use borrow.Author.Tests.{eq-eqb, ne_eqb, eqb-true, lt-ltb, le-ltb, le-leb}
-use lib.Dec.{T, eqb, leb, ltb, eqb→eq}
+use borrow.Author.Tests.{eqb-true}
+use lib.Dec.{eqb, leb, eqb→eq}
 use lib.ListN.{length, get_or, drop, replicate, length-drop, drop_of_length-le}
-use lib.Seq.{drop-cons, drop-drop}
-use Rattle.octets.proofs.Table.{at, every}
-use Rattle.xtext.specs.Xtext.{xchar, number, hexdig, hexchar, plus, valid, octets, escape_at, character_at}
+use lib.Seq.{drop-drop}
+use Rattle.std.proofs.lemmas.Grind.{common_steps}
+use Rattle.std.proofs.lemmas.List.{drop_more}
+use Rattle.octets.proofs.Table.{at}
+use Rattle.xtext.specs.Xtext.{xchar, number, digits, hexdig, hexchar, plus, valid, octets, escape_at, character_at}
 use Rattle.xtext.specs.declared.Character.{Character}
 use Rattle.xtext.specs.declared.Character.TheVariants.{End, Malformed, Octet}
+use Rattle.xtext.proofs.Characters.{past_end}
 use Rattle.xtext.proofs.Grammar.{valid-self, octets-self}
 
--- a rule of the digits' numbers over a range of octets, by one test that antt computes at all 256
-abbrev pub rule : (ℕ → ℕ) → ℕ → ℕ → ℕ → ℕ → Bool
-rule f lo hi k _ = cond (leb lo k && ltb k hi) (eqb (f k) (number k)) true
+-- the number of an octet by the two ranges of the digits: one test that antt computes at all 256
+abbrev by_range : ℕ → ℕ
+by_range x = cond (leb 48 x && leb x 57) (x - 48) (cond (leb 65 x && leb x 70) (x - 55) 16)
 
-pub in_range : (f : ℕ → ℕ) (lo hi : ℕ) → T (every (rule f lo hi) 0 (replicate 256 0)) → (x : ℕ) → x < 256 → lo ≤ x → x < hi → f x ≡ number x
-in_range f lo hi t x h l u =
-    eqb→eq (f x) (number x) (simp (le-leb lo x l, lt-ltb x hi u) at (at (rule f lo hi) (replicate 256 0) t x h))
+abbrev in_ranges : ℕ → ℕ → Bool
+in_ranges x _ = eqb (number x) (by_range x)
 
--- after "+"
-module _ (t : List ℕ) (i : ℕ) where
-  short : (l : List ℕ) → length l < 2 → Malformed ≡ escape_at i l
-  unfolding escape_at
-  short [] h = refl
-  short (y ∷ []) h = refl
-  short (y ∷ z ∷ r) h = absurd (omega arith)
-
-  pub escape-short : length t < i + 3 → Malformed ≡ escape_at i (drop (i + 1) t)
-  escape-short h = short (drop (i + 1) t) (simp length-drop (omega arith))
-
-  module _ (h : i + 3 ≤ length t) where
-    escape-is : escape_at i (drop (i + 1) t) ≡ cond (hexdig (get_or t (i + 1) 0) && hexdig (get_or t (i + 2) 0)) (Octet (hexchar (get_or t (i + 1) 0) (get_or t (i + 2) 0)) (i + 3)) Malformed
-    unfolding escape_at
-    escape-is = simp (add-one, add-two) (rw (drop-cons t (suc i) 0 (omega arith), drop-cons t (suc (suc i)) 0 (omega arith)))
-
-    pub escape-first : 16 ≤ number (get_or t (i + 1) 0) → Malformed ≡ escape_at i (drop (i + 1) t)
-    escape-first p = rw (escape-is, le-ltb (number (get_or t (i + 1) 0)) 16 p)
-
-    pub escape-second : number (get_or t (i + 1) 0) < 16 → 16 ≤ number (get_or t (i + 2) 0) → Malformed ≡ escape_at i (drop (i + 1) t)
-    escape-second p q = rw (escape-is, lt-ltb (number (get_or t (i + 1) 0)) 16 p, le-ltb (number (get_or t (i + 2) 0)) 16 q)
-
-    pub escape-both : number (get_or t (i + 1) 0) < 16 → number (get_or t (i + 2) 0) < 16 → {v : ℕ} → v ≡ hexchar (get_or t (i + 1) 0) (get_or t (i + 2) 0)
-        → Octet v (i + 3) ≡ escape_at i (drop (i + 1) t)
-    escape-both p q e = rw (escape-is, lt-ltb (number (get_or t (i + 1) 0)) 16 p, lt-ltb (number (get_or t (i + 2) 0)) 16 q, e)
+pub number_is : (x : ℕ) → x < 256 → number x ≡ cond (leb 48 x && leb x 57) (x - 48) (cond (leb 65 x && leb x 70) (x - 55) 16)
+unfolding number digits
+number_is x h = eqb→eq _ _ (at in_ranges (replicate 256 0) tt x h)
 
 -- the character at an index
-module _ (t : List ℕ) (i : ℕ) where
-  pub at-end : length t ≤ i → End ≡ character_at i (drop i t)
-  unfolding character_at
-  at-end h = rw (drop_of_length-le t {i = i} h)
+pub character_end : (t : List ℕ) (i : ℕ) → length t ≤ i → character_at i (drop i t) ≡ End
+unfolding character_at
+character_end t i h = rw (drop_of_length-le t {i = i} h)
 
-  module _ (h : i < length t) where
-    pub at-escape : get_or t i 0 ≡ plus → escape_at i (drop (i + 1) t) ≡ character_at i (drop i t)
-    unfolding character_at
-    at-escape e = rw (drop-cons t i 0 h, eq-eqb (get_or t i 0) plus e, add-one)
+pub character_is : (t : List ℕ) (i : ℕ) → i < length t
+    → character_at i (drop i t) ≡ cond (eqb (get_or t i 0) plus) (escape_at i (drop (i + 1) t)) (cond (xchar (get_or t i 0)) (Octet (get_or t i 0) (i + 1)) Malformed)
+unfolding character_at
+character_is t i h = rw (drop_more t i 0 h)
 
-    module _ (e : get_or t i 0 ≡ plus → ⊥) where
-      pub at_self : xchar (get_or t i 0) ≡ true → Octet (get_or t i 0) (i + 1) ≡ character_at i (drop i t)
-      unfolding character_at
-      at_self f = rw (drop-cons t i 0 h, ne_eqb (get_or t i 0) plus e, f)
+-- after "+"
+pub escape_is : (i : ℕ) (t : List ℕ) → escape_at i t ≡ cond (hexdig (get_or t 0 0) && hexdig (get_or t 1 0)) (Octet (hexchar (get_or t 0 0) (get_or t 1 0)) (i + 3)) Malformed
+unfolding escape_at
+escape_is i [] = rw (past_end [] 0 (omega arith))
+escape_is i (y ∷ []) = rw (past_end (y ∷ []) 1 (omega arith), and-false (hexdig y))
+escape_is i (y ∷ z ∷ r) = refl
 
-      pub at_none : xchar (get_or t i 0) ≡ false → Malformed ≡ character_at i (drop i t)
-      unfolding character_at
-      at_none f = rw (drop-cons t i 0 h, ne_eqb (get_or t i 0) plus e, f)
+pub ruleset walking = (common_steps, character_end, character_is, escape_is)
 
 -- what a character says of the text that it begins: k octets of it are the character
 abbrev Front : ℕ → List ℕ → Character → Type 0

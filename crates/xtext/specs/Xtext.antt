@@ -2,9 +2,8 @@
 use Rattle.std.specs.Prelude.{Bool, true, false, cond, ◌&&◌, ◌||◌, List, [], ◌∷◌, ℕ, ◌+◌, ◌*◌, ◌/◌, ◌%◌, ltb, leb, eqb, get_or}
 use Rattle.octets.specs.Alphabet.{index}
 use Rattle.octets.specs.Answers
-use Rattle.octets.specs.declared.Measured.{Measured}
-use Rattle.octets.specs.declared.Decoded.{Decoded}
-use Rattle.octets.specs.declared.Encoded.{Encoded}
+use Rattle.std.specs.Prelude.{Option, Result}
+use Rattle.octets.specs.declared.DecodeError.{DecodeError}
 use Rattle.xtext.specs.declared.Character.{Character}
 
 -- "xchar = %x21-2A / %x2C-3C / %x3E-7E"
@@ -60,16 +59,16 @@ needless (x ∷ y ∷ []) = false
 needless (x ∷ y ∷ z ∷ r) = cond (eqb x plus) (xchar (hexchar y z) || needless r) (needless (y ∷ z ∷ r))
 
 -- the answers of measure, decode and encode, and the buffer that decode leaves
-abbrev pub measured : List ℕ → Measured
+abbrev pub measured : List ℕ → Option ℕ
 measured t = Answers.measured (valid t) (octets t)
 
-abbrev pub decoded : List ℕ → ℕ → Decoded
+abbrev pub decoded : List ℕ → ℕ → Result ℕ DecodeError
 decoded t m = Answers.decoded (valid t) (octets t) m
 
 abbrev pub decoded_into : List ℕ → List ℕ → List ℕ
 decoded_into t buffer = Answers.decoded_into (valid t) (octets t) buffer
 
-abbrev pub encoded : List ℕ → ℕ → ℕ → Encoded
+abbrev pub encoded : List ℕ → ℕ → ℕ → Option ℕ
 encoded l m at = Answers.encoded (encode l) m at
 
 -- the first character of a text that stands at index i: an xchar for itself, a hexchar for its octet, and the index after it

@@ -6,8 +6,8 @@ use mathlib.Core.Bool.{false}
 use mathlib.Core.Path.{◌≡◌}
 use Rattle.mail.proofs.read_parameters.Given as goal
 
-abbrev pub invariant-loop-i : goal.invariant-loop-i
-invariant-loop-i l = read_parameters l.auth l.submitter l.i (drop l.i l.line) ≡ read_parameters Absent false l.at (drop l.at l.line)
+abbrev pub invariant-loop-x : goal.invariant-loop-x
+invariant-loop-x l = read_parameters l.auth l.submitter l.i (drop l.i l.line) ≡ read_parameters Absent false l.at (drop l.at l.line)
 
-abbrev pub decreases-loop-i : goal.decreases-loop-i
-decreases-loop-i l = length l.line - l.i
+abbrev pub decreases-loop-x : goal.decreases-loop-x
+decreases-loop-x l = length l.line - l.i

@@ -1,13 +1,8 @@
-use Prim.Native.Nat.{◌-◌, ◌≤◌}
-use Rattle.base64text.specs.Base64.{octets}
+use Rattle.std.proofs.Common.{◌≡◌, ◌*◌, ◌≤◌, drop, Some, flat_map}
+use Rattle.base64text.proofs.Laws.{octets_at}
 use Rattle.plain.specs.Message.{measured}
-use Rattle.plain.specs.Private.{scan, finished}
-use lib.ListN.{length, drop}
-use mathlib.Core.Path.{◌≡◌}
+use Rattle.plain.proofs.Scans.{result}
 use Rattle.plain.proofs.measure.Given as goal
 
-abbrev pub invariant-loop-i : goal.invariant-loop-i
-invariant-loop-i l = (l.i ≤ length l.text) × (l.s.length ≤ l.i) × (finished (scan l.s (octets (drop l.i l.text))) ≡ measured l.text)
-
-abbrev pub decreases-loop-i : goal.decreases-loop-i
-decreases-loop-i l = length l.text - l.i
+abbrev pub invariant-loop-a : goal.invariant-loop-a
+invariant-loop-a l = (l.scan.length ≤ l.a-index * 3) × (result (Some l.scan) (flat_map octets_at (drop l.a-index l.groups)) ≡ measured l.text)

@@ -1,12 +1,7 @@
-use Prim.Native.Nat.{◌-◌, ◌≤◌}
+use Rattle.std.proofs.Common.{◌≡◌, ◌≤◌, drop, Some}
 use Rattle.plain.specs.Message.{fields}
-use Rattle.plain.specs.Private.{scan, finished}
-use lib.ListN.{length, drop}
-use mathlib.Core.Path.{◌≡◌}
+use Rattle.plain.proofs.Scans.{result}
 use Rattle.plain.proofs.read.Given as goal
 
-abbrev pub invariant-loop-i : goal.invariant-loop-i
-invariant-loop-i l = (l.i ≤ length l.message) × (l.s.length ≤ l.i) × (finished (scan l.s (drop l.i l.message)) ≡ fields l.message)
-
-abbrev pub decreases-loop-i : goal.decreases-loop-i
-decreases-loop-i l = length l.message - l.i
+abbrev pub invariant-loop-x : goal.invariant-loop-x
+invariant-loop-x l = (l.scan.length ≤ l.x-index) × (result (Some l.scan) (drop l.x-index l.message) ≡ fields l.message)

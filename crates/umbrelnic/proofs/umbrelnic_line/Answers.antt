@@ -9,16 +9,16 @@ use Rattle.umbrelnic.proofs.umbrelnic_line.Goals as goal
 
 pub returns-then-are_short : goal.returns-then-are_short
 returns-then-are_short c = rw (step-short c.args.image.now (Call.line c.args.connection c.args.line.now c.args.reply.now c.args.answer.now) (sym c.are_short.ensures ∙ c.if-are_short.true))
-    (c.not_answered.ensures, refl, sym (nothing_written _), sym (nothing_written _))
+    (c.from.ensures, refl, sym (nothing_written _), sym (nothing_written _))
 
 pub hear-requires : goal.hear-requires
-hear-requires c = let p = placed_at NoConnection (holding (is_numbered c.args.connection)) c.args.image.now _ (sym c.in-At.is ∙ c.find_connection-place.ensures) in
+hear-requires c = let p = placed_at NoConnection (holding (is_numbered c.args.connection)) c.args.image.now _ (sym c.in-Ok.is ∙ c.find_connection.ensures) in
     (p.0, p.1, sym c.are_short.ensures ∙ c.if-are_short.false)
 
-pub returns-in-Refused : goal.returns-in-Refused
-returns-in-Refused c = rw (line_refused c.args.image.now c.args.connection c.args.line.now c.args.reply.now c.args.answer.now
-    (sym c.are_short.ensures ∙ c.if-are_short.false) _ (sym c.in-Refused.is ∙ c.find_connection-place.ensures))
-    (c.not_answered-in-Refused.ensures, refl, sym (nothing_written _), sym (nothing_written _))
+pub returns-in-Err : goal.returns-in-Err
+returns-in-Err c = rw (line_refused c.args.image.now c.args.connection c.args.line.now c.args.reply.now c.args.answer.now
+    (sym c.are_short.ensures ∙ c.if-are_short.false) _ (sym c.in-Err.is ∙ c.find_connection.ensures))
+    (c.from-in-Err.ensures, refl, sym (nothing_written _), sym (nothing_written _))
 
-pub returns-in-At : goal.returns-in-At
-returns-in-At c = (c.hear.ensures.given, c.hear.ensures.image, c.hear.ensures.heard, c.hear.ensures.handed)
+pub returns-in-Ok : goal.returns-in-Ok
+returns-in-Ok c = (c.hear.ensures.given, c.hear.ensures.image, c.hear.ensures.heard, c.hear.ensures.handed)

@@ -3,7 +3,7 @@ use mathlib.Core.Path.{refl}
 use Rattle.umbrelnic.proofs.umbrelnic_make.Goals as goal
 
 pub returns-then-image-ne-OCTETS : goal.returns-then-image-ne-OCTETS
-returns-then-image-ne-OCTETS c = rw (make-refused c.args.image.now c.args.connection c.args.ticket c.if-image-ne-OCTETS.true) (c.number.ensures, refl)
+returns-then-image-ne-OCTETS c = rw (make-refused c.args.image.now c.args.connection c.args.ticket c.if-image-ne-OCTETS.true) (c.from.ensures, refl)
 
 pub returns : goal.returns
 returns c = rw (make-done c.args.image.now c.args.connection c.args.ticket c.if-image-ne-OCTETS.false) (refl, c.make.ensures)

@@ -14,19 +14,19 @@ use Rattle.umbrelnic.proofs.umbrelnic_verdict.Goals as goal
 pub returns-then-are_short : goal.returns-then-are_short
 returns-then-are_short c = rw (step-short c.args.image.now (Call.verdict c.args.ticket c.args.verdict c.args.bytes.now c.args.reply.now c.args.answer.now)
     (sym c.are_short.ensures ∙ c.if-are_short.true))
-    (c.not_said.ensures, refl, sym (nothing_written _), sym (nothing_written _))
+    (c.from.ensures, refl, sym (nothing_written _), sym (nothing_written _))
 
 pub judge-requires : goal.judge-requires
-judge-requires c = let p = placed_at NoTicket (holding (is_waiting c.args.ticket)) c.args.image.now _ (sym c.in-At.is ∙ c.find_ticket-place.ensures) in
+judge-requires c = let p = placed_at NoTicket (holding (is_waiting c.args.ticket)) c.args.image.now _ (sym c.in-Ok.is ∙ c.find_ticket.ensures) in
     (p.0, p.1, (room reply_buffer answer_buffer (length c.args.reply.now) (length c.args.answer.now) (sym c.are_short.ensures ∙ c.if-are_short.false)).0)
 
-pub returns-in-Refused : goal.returns-in-Refused
-returns-in-Refused c = rw (verdict-refused c.args.image.now c.args.ticket c.args.verdict c.args.bytes.now c.args.reply.now c.args.answer.now
-    (sym c.are_short.ensures ∙ c.if-are_short.false) _ (sym c.in-Refused.is ∙ c.find_ticket-place.ensures))
-    (c.not_said-in-Refused.ensures, refl, sym (nothing_written _), sym (nothing_written _))
+pub returns-in-Err : goal.returns-in-Err
+returns-in-Err c = rw (verdict-refused c.args.image.now c.args.ticket c.args.verdict c.args.bytes.now c.args.reply.now c.args.answer.now
+    (sym c.are_short.ensures ∙ c.if-are_short.false) _ (sym c.in-Err.is ∙ c.find_ticket.ensures))
+    (c.from-in-Err.ensures, refl, sym (nothing_written _), sym (nothing_written _))
 
-pub returns-in-At : goal.returns-in-At
-returns-in-At c = let p = placed_at NoTicket (holding (is_waiting c.args.ticket)) c.args.image.now _ (sym c.in-At.is ∙ c.find_ticket-place.ensures) in
+pub returns-in-Ok : goal.returns-in-Ok
+returns-in-Ok c = let p = placed_at NoTicket (holding (is_waiting c.args.ticket)) c.args.image.now _ (sym c.in-Ok.is ∙ c.find_ticket.ensures) in
     rw (verdict-on c.args.image.now c.args.ticket c.args.verdict c.args.bytes.now c.args.reply.now c.args.answer.now p.0 (sym c.are_short.ensures ∙ c.if-are_short.false)) (
       c.judge.ensures.given,
       c.judge.ensures.image,

@@ -11,17 +11,17 @@ use Rattle.umbrelnic.proofs.umbrelnic_who.Goals as goal
 pub returns-then-name-lt-LONGEST_NAME : goal.returns-then-name-lt-LONGEST_NAME
 returns-then-name-lt-LONGEST_NAME c = rw (step-short c.args.image.now (Call.who c.args.connection c.args.name.now)
     (ap not (lt-leb longest_name (length c.args.name.now) c.if-name-lt-LONGEST_NAME.true)))
-    (c.not_told.ensures, refl, sym (nothing_written _))
+    (c.from.ensures, refl, sym (nothing_written _))
 
 pub tell-requires : goal.tell-requires
-tell-requires c = (c.if-name-lt-LONGEST_NAME.false, session-within c.args.image.now c.args.connection _ (sym c.in-At.is ∙ c.find_connection-place.ensures))
+tell-requires c = (c.if-name-lt-LONGEST_NAME.false, session-within c.args.image.now c.args.connection _ (sym c.in-Ok.is ∙ c.find_connection.ensures))
 
-pub returns-in-Refused : goal.returns-in-Refused
-returns-in-Refused c = rw (who-refused c.args.image.now c.args.connection c.args.name.now
-    (ap not (le-leb longest_name (length c.args.name.now) c.if-name-lt-LONGEST_NAME.false)) _ (sym c.in-Refused.is ∙ c.find_connection-place.ensures))
-    (c.not_told-in-Refused.ensures, refl, sym (nothing_written _))
+pub returns-in-Err : goal.returns-in-Err
+returns-in-Err c = rw (who-refused c.args.image.now c.args.connection c.args.name.now
+    (ap not (le-leb longest_name (length c.args.name.now) c.if-name-lt-LONGEST_NAME.false)) _ (sym c.in-Err.is ∙ c.find_connection.ensures))
+    (c.from-in-Err.ensures, refl, sym (nothing_written _))
 
-pub returns-in-At : goal.returns-in-At
-returns-in-At c = rw (who-done c.args.image.now c.args.connection _ (sym c.in-At.is ∙ c.find_connection-place.ensures) c.args.name.now
+pub returns-in-Ok : goal.returns-in-Ok
+returns-in-Ok c = rw (who-done c.args.image.now c.args.connection _ (sym c.in-Ok.is ∙ c.find_connection.ensures) c.args.name.now
     (ap not (le-leb longest_name (length c.args.name.now) c.if-name-lt-LONGEST_NAME.false)))
     (c.tell.ensures.0, refl, c.tell.ensures.1)

@@ -1,11 +1,9 @@
-use Prim.Native.Nat.{◌+◌, ◌-◌, ◌≤◌}
+use Prim.Native.Nat.{◌+◌, ◌-◌}
 use Rattle.image.specs.Private.{runs_at}
 use mathlib.Core.Bool.{◌&&◌}
 use mathlib.Core.Path.{◌≡◌}
 use Rattle.image.proofs.fits.runs.Given as goal
 
 abbrev pub invariant-loop-i : goal.invariant-loop-i
-invariant-loop-i l = (l.i ≤ 32) × (runs_at l.image 32 l.at ≡ (l.ok && runs_at l.image (32 - l.i) (l.at + l.i)))
-
-abbrev pub decreases-loop-i : goal.decreases-loop-i
-decreases-loop-i l = 32 - l.i
+invariant-loop-i l =
+    runs_at l.image 32 l.at ≡ (l.ok && runs_at l.image (32 - l.i) (l.at + l.i))

@@ -13,14 +13,6 @@ use Rattle.image.proofs.fits.slots_fit.Goals as goal
 pub loop-i-init : goal.loop-i-init
 loop-i-init c = (search rules, walk_start _ _, met_start _ _ _ _ refl, met_start _ _ _ _ refl)
 
-pub overflow_sub-i : goal.overflow_sub-i
-overflow_sub-i c = let e : c.loop-i.i % 8 ≡ 0 = eqb-true _ _ (both (eqb (c.loop-i.i % 8) 0) _ (sym c.are_free.ensures ∙ c.if-are_free.true)).0 in
-    omega (arith, e)
-
-pub loop-i-smaller-then-are_free : goal.loop-i-smaller-then-are_free
-loop-i-smaller-then-are_free c = let e : c.loop-i.i % 8 ≡ 0 = eqb-true _ _ (both (eqb (c.loop-i.i % 8) 0) _ (sym c.are_free.ensures ∙ c.if-are_free.true)).0 in
-    omega (arith, e)
-
 pub loop-i-preserved-then-are_free : goal.loop-i-preserved-then-are_free
 loop-i-preserved-then-are_free c = let free = both (eqb (c.loop-i.i % 8) 0) _ (sym c.are_free.ensures ∙ c.if-are_free.true) in
     let z : c.loop-i.i % 8 ≡ 0 = eqb-true _ _ free.0 in
@@ -28,10 +20,6 @@ loop-i-preserved-then-are_free c = let free = both (eqb (c.loop-i.i % 8) 0) _ (s
     let w = walk-skip c.args.image.now c.args.header c.loop-i.numbers c.loop-i.tickets 8 (c.loop-i.i - 8) (omega (arith, z)) free.1
     (rw e c.loop-i.invariant.1) (rw e c.loop-i.invariant.2) (rw e c.loop-i.invariant.3) in
     (omega arith, w.0, w.1, w.2)
-
-pub slot_joins-requires : goal.slot_joins-requires
-slot_joins-requires c = let e : c.loop-i.i - 1 + 1 ≡ c.loop-i.i = omega arith in
-    (search rules, search rules, rw e c.loop-i.invariant.2, rw e c.loop-i.invariant.3)
 
 pub returns-then-not-slot_joins : goal.returns-then-not-slot_joins
 returns-then-not-slot_joins c = let e : c.loop-i.i - 1 + 1 ≡ c.loop-i.i = omega arith in

@@ -1,14 +1,11 @@
-use Rattle.codec.proofs.InPlace.{zeros-turn, zeros-end}
-use borrow.Author.Rules.{rules}
-use mathlib.Core.Path.{sym}
-use native.Mathlib.Nat.{add-zero, sub-zero}
+use Rattle.std.proofs.Common.{◌&&◌, true, nat_eq, take, drop, ◌+◌, ◌-◌, ◌∙◌, rules, tests, arith}
+use Rattle.std.proofs.lemmas.Iterator.{YieldsList-from_slice}
+use Rattle.std.proofs.lemmas.Iterator.Consumers.{fold_from_yields_List}
+use Rattle.image.proofs.Values.{are_zeros}
 use Rattle.image.proofs.leaves.are_zeros.Goals as goal
 
-pub loop-i-init : goal.loop-i-init
-loop-i-init c = (search rules, rw (sub-zero, add-zero))
-
-pub loop-i-preserved : goal.loop-i-preserved
-loop-i-preserved c = (search rules, zeros-turn _ c.loop-i.zeros _ _ _ _ c.loop-i.invariant.1 c.loop-i-test.true)
-
 pub returns : goal.returns
-returns c = sym (zeros-end _ c.loop-i.zeros _ _ _ _ c.loop-i.invariant.1 c.loop-i-test.false)
+returns c =
+    let octets = take (c.args.at + c.args.count - c.args.at) (drop c.args.at c.args.image.now) in
+    fold_from_yields_List _ (λ b x. b && nat_eq x 0) true c.fold.result c.fold.ensures.ran (YieldsList-from_slice octets cc) (λ b x r q k. search (rules, tests))
+    ∙ are_zeros c.args.image.now c.args.at _ c.args.count c.requires (omega arith)

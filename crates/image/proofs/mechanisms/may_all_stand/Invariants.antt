@@ -1,4 +1,4 @@
-use Prim.Native.Nat.{◌+◌, ◌-◌, ◌≤◌}
+use Prim.Native.Nat.{◌+◌, ◌-◌}
 use Rattle.codec.specs.InPlace.{every_at}
 use Rattle.image.specs.Private.{may_stand_at}
 use mathlib.Core.Bool.{◌&&◌}
@@ -6,7 +6,5 @@ use mathlib.Core.Path.{◌≡◌}
 use Rattle.image.proofs.mechanisms.may_all_stand.Given as goal
 
 abbrev pub invariant-loop-i : goal.invariant-loop-i
-invariant-loop-i l = (l.i ≤ 16) × (every_at (may_stand_at l.image) 1 16 l.at ≡ (l.ok && every_at (may_stand_at l.image) 1 (16 - l.i) (l.at + l.i)))
-
-abbrev pub decreases-loop-i : goal.decreases-loop-i
-decreases-loop-i l = 16 - l.i
+invariant-loop-i l =
+    every_at (may_stand_at l.image) 1 16 l.at ≡ (l.ok && every_at (may_stand_at l.image) 1 (16 - l.i) (l.at + l.i))

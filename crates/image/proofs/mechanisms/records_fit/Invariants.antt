@@ -1,4 +1,4 @@
-use Prim.Native.Nat.{◌+◌, ◌-◌, ◌*◌, ◌≤◌}
+use Prim.Native.Nat.{◌+◌, ◌-◌, ◌*◌}
 use Rattle.image.proofs.Table.{records_fit}
 use Rattle.image.specs.InPlace.{mechanism_offset}
 use Rattle.image.specs.Sizes.{mechanism_size}
@@ -7,7 +7,5 @@ use mathlib.Core.Path.{◌≡◌}
 use Rattle.image.proofs.mechanisms.records_fit.Given as goal
 
 abbrev pub invariant-loop-i : goal.invariant-loop-i
-invariant-loop-i l = (l.i ≤ l.count) × (records_fit l.image l.count (mechanism_offset 0) ≡ (l.ok && records_fit l.image (l.count - l.i) (mechanism_offset 0 + l.i * mechanism_size)))
-
-abbrev pub decreases-loop-i : goal.decreases-loop-i
-decreases-loop-i l = l.count - l.i
+invariant-loop-i l =
+    records_fit l.image l.count (mechanism_offset 0) ≡ (l.ok && records_fit l.image (l.count - l.i) (mechanism_offset 0 + l.i * mechanism_size))

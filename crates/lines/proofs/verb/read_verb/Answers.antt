@@ -1,8 +1,6 @@
-use Rattle.lines.proofs.Verbs.{five}
-use mathlib.Core.Path.{◌∙◌}
-use native.Mathlib.Nat.{zero-add}
+use Rattle.std.proofs.Common.{◌∙◌, arith}
+use Rattle.lines.proofs.Verbs.{four}
 use Rattle.lines.proofs.verb.read_verb.Goals as goal
 
-pub returns : goal.returns
-returns c = c.verb_of.ensures
-    ∙ five _ _ (simp (c.find.ensures, c.part-head.ensures, zero-add) at c.part.ensures)
+pub returns-in-len4 : goal.returns-in-len4
+returns-in-len4 c = c.verb_of.ensures ∙ four c.args.line.now (grind arith) (grind arith)

@@ -8,10 +8,13 @@ use mathlib.Core.Path.{◌≡◌}
 use Rattle.mail.proofs.address.judge.Given as goal
 
 abbrev pub invariant-loop-value : goal.invariant-loop-value
-invariant-loop-value l = (l.n ≤ l.i)
-    × (l.i + length (before space (drop l.i l.line)) ≡ l.from + length (before space (drop l.from l.line)))
-    × (going l.s l.n (l.from + length (before space (drop l.from l.line))) (before space (drop l.i l.line)) ≡ judged
-    (l.from + length (before space (drop l.from l.line))) (before space (drop l.from l.line)))
+invariant-loop-value l =
+    let to = l.from + length (before space (drop l.from l.line)) in
+    record {
+      counted : l.length ≤ l.i;
+      ends : l.i + length (before space (drop l.i l.line)) ≡ to;
+      same : going l.s l.from to l.length (before space (drop l.i l.line)) ≡ judged l.from (before space (drop l.from l.line));
+    }
 
 abbrev pub decreases-loop-value : goal.decreases-loop-value
 decreases-loop-value l = length l.line - l.i

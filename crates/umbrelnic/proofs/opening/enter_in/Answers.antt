@@ -8,7 +8,7 @@ use Rattle.umbrelnic.proofs.opening.enter_in.Goals as goal
 pub returns-then-number : goal.returns-then-number
 returns-then-number c = rw (open_exhausted c.args.image.now c.requires.0 c.args.profile c.args.protected _ c.requires.1
     (ap (λ (h : Header). h.connection) (sym c.read_header-header.ensures) ∙ c.if-number.true))
-    (c.not_opened.ensures, refl)
+    (c.from.ensures, refl)
 
 pub returns : goal.returns
 returns c = let h : (header_read c.args.image.now).connection ≡ unissued → ⊥ = λ z. c.if-number.false (ap (λ (h : Header). h.connection) c.read_header-header.ensures ∙ z) in

@@ -8,10 +8,10 @@ use mathlib.Core.Path.{refl, sym, ◌∙◌}
 use native.Mathlib.Omega.{arith}
 use Rattle.umbrelnic.proofs.telling.tell_of.Goals as goal
 
-pub returns-in-End : goal.returns-in-End
-returns-in-End c = let e = sym c.is_signed_in.ensures ∙ c.if-is_signed_in.true in
+pub returns-in-Some : goal.returns-in-Some
+returns-in-Some c = let e = sym c.is_signed_in.ensures ∙ c.if-is_signed_in.true in
     let f : length (name_of c.args.session) ≤ length c.args.name.now = omega (arith, name-fits c.args.session c.requires.1 e) in
-    rw e (rw (said-end (name_of c.args.session) c.args.name.now f _ (sym c.in-End.is ∙ c.write_name-end.ensures.0)), c.write_name-end.ensures.1)
+    rw e (rw (said-end (name_of c.args.session) c.args.name.now f _ (sym c.in-Some.is ∙ c.write_name-end.ensures.0)), c.write_name-end.ensures.1)
 
 pub returns-in_default : goal.returns-in_default
 returns-in_default c = let e = sym c.is_signed_in.ensures ∙ c.if-is_signed_in.true in

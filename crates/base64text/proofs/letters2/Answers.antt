@@ -1,4 +1,0 @@
-use Rattle.base64text.proofs.letters2.Goals as goal
-
-pub returns : goal.returns
-returns c = rw c.joined-w.ensures

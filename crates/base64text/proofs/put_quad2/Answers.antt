@@ -1,5 +1,0 @@
-use borrow.Author.Rules.{rules}
-use Rattle.base64text.proofs.put_quad2.Goals as goal
-
-pub returns : goal.returns
-returns c = (search rules, cc)

@@ -1,4 +1,0 @@
-use Rattle.lines.proofs.mechanism.is_mechanism.Goals as goal
-
-pub returns : goal.returns
-returns c = c.is_formed.ensures

@@ -1,7 +1,0 @@
-use Rattle.profile.proofs.Profile.say.Goals as goal
-
-pub returns-in-Smtp : goal.returns-in-Smtp
-returns-in-Smtp c = rw c.in-Smtp.is c.smtp.ensures
-
-pub returns-in-Pop3 : goal.returns-in-Pop3
-returns-in-Pop3 c = rw c.in-Pop3.is c.pop3.ensures

@@ -1,8 +1,0 @@
-use mathlib.Core.Path.{sym, ◌∙◌}
-use Rattle.session.proofs.Session.alone.Goals as goal
-
-pub returns-then-speaks_first : goal.returns-then-speaks_first
-returns-then-speaks_first c = rw (sym c.speaks_first.ensures ∙ c.if-speaks_first.true) c.moves.ensures
-
-pub returns-else-speaks_first : goal.returns-else-speaks_first
-returns-else-speaks_first c = rw (sym c.speaks_first.ensures ∙ c.if-speaks_first.false) c.asks.ensures

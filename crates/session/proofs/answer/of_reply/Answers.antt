@@ -1,4 +1,0 @@
-use Rattle.session.proofs.answer.of_reply.Goals as goal
-
-pub returns : goal.returns
-returns c = rw c.number.ensures

@@ -1,9 +1,0 @@
-use Rattle.std.proofs.Common.{arith}
-use Rattle.octets.proofs.Words.{find-within}
-use Rattle.textvectors.proofs.rows.read_each.Goals as goal
-
-pub overflow_add-from : goal.overflow_add-from
-overflow_add-from g c = omega (arith, find-within 124 c.args.list.now c.loop-from.from (omega arith))
-
-pub loop-from-preserved : goal.loop-from-preserved
-loop-from-preserved g c = omega (arith, find-within 124 c.args.list.now c.loop-from.from (omega arith))

@@ -1,4 +1,0 @@
-use Rattle.xtext.proofs.decode_part.Goals as goal
-
-pub returns : goal.returns
-returns c = rw (← c.part.ensures) c.decode_at.ensures

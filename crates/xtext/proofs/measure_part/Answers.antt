@@ -1,4 +1,0 @@
-use Rattle.xtext.proofs.measure_part.Goals as goal
-
-pub returns : goal.returns
-returns c = rw (← c.part.ensures) c.measure_at.ensures
