@@ -69,7 +69,7 @@ pub fn decode_unchecked(text: &[u8], out: &mut [u8])
     }
 }
 
-// Writes the text of some octets into out from index at on. Where it does not fit, out is left as it is.
+// Writes the text of some octets into out, which is lent, from index at on. Where it does not fit, out is left as it is.
 #[tactic(auto, using(crate::proofs::Quads::fitting))]
 pub fn encode(bytes: &[u8], out: &mut [u8], at: usize) -> Option<usize>
     ensures { (result ≡ encoded bytes.now (length out.old) at) × (out.new ≡ written out.old at (encode bytes.now)) }
@@ -84,8 +84,8 @@ pub fn encode(bytes: &[u8], out: &mut [u8], at: usize) -> Option<usize>
 // stack wherever it is written, so whoever reads a text makes the table once and lends it.
 #[derive(Drop)]
 pub struct Values {
-    table: [u8; 256],
-    ghost made: { table ≡ values },
+    pub table: [u8; 256],
+    pub ghost made: { table ≡ values },
 }
 
 impl Values {
@@ -237,7 +237,8 @@ fn three(p: u8, q: u8, r: u8, s: u8) -> [u8; 3]
     [x, y, z]
 }
 
-// Four letters, by their numbers; three and "="; two and "==". The unused bits must be zero. With `&` all is tested at once.
+// Four letters, by their numbers; three and "="; two and "==". The unused bits must be zero. Three tests of different octets,
+// so no one function of a count is plainer. With `&` all is tested at once.
 fn letters(p: u8, q: u8, r: u8, s: u8) -> bool
     ensures { result ≡ letters p q r s }
 {

@@ -1,4 +1,5 @@
-// One value where it stands: an octet, a number in eight octets, the least significant first, a yes-or-no, a run of octets.
+// One value where it stands: an octet, a number in eight octets, the least significant first, a yes-or-no, a run of octets. Each is read at an index of
+// the octets, as the definitions of the layout read it, and asks that it ends within them.
 #![tactic(auto, using(crate::proofs::Values::values))]
 
 ghost use Rattle.std.specs.Prelude.{◌≡◌, ◌+◌, ◌≤◌, ◌<◌, length, get_or, replicate};

@@ -54,6 +54,7 @@ fn at_end(s: State, from: usize, to: usize, length: usize) -> Option<Reading<Mai
 }
 
 // Reads the value from an index on up to a space or the line's end. A space is no character of xtext. None: the value is neither of the two.
+// A character's reading says where the next begins, so no iterator over the line is plainer.
 #[tactic(auto, using(crate::proofs::Values::turns))]
 pub(crate) fn judge(line: &[u8], from: usize) -> Option<Reading<Mail>>
     ensures { result ≡ judged from (before space (drop from line.now)) }

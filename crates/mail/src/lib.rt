@@ -65,8 +65,8 @@ fn mail_from(line: &[u8], at: usize) -> Option<Mail>
     read_parameters(line, end + 1)
 }
 
-// Reads the parameters, each after one space, from an index on to the line's end: what AUTH says, and whether SUBMITTER was met. Neither of the two
-// may come twice.
+// Reads the parameters, each after one space, from an index on to the line's end: what AUTH says. Neither AUTH nor SUBMITTER may come twice. A parameter's
+// reading says where the next begins, so no iterator over the line is plainer.
 #[tactic(auto, using(crate::proofs::Lines::turns))]
 fn read_parameters(line: &[u8], at: usize) -> Option<Mail>
     ensures { result ≡ read_parameters Absent false at (drop at line.now) }

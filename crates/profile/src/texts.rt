@@ -1,4 +1,4 @@
-// The replies, as document 01's table has them, each followed by CRLF: a table for each profile.
+// The replies, as document 01's table has them, each followed by CRLF. A table for each profile: no text is in both.
 ghost use Rattle.std.specs.Prelude.{◌≡◌};
 ghost use Rattle.profile.specs.Texts.{reply};
 

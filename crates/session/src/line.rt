@@ -1,4 +1,4 @@
-// A line, by the session's phase. The offer and the ticket are two parameters, as the public step has them.
+// A line, by the session's phase. The offer and the ticket are two parameters, since only some steps have both.
 ghost use Rattle.std.specs.Prelude.{◌≡◌};
 ghost use Rattle.session.specs.Line.{at_rest, awaiting, on_line};
 

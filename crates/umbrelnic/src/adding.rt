@@ -1,4 +1,4 @@
-// A mechanism added to an image that is taken.
+// A mechanism added to an image that is taken: said in `requires`, since a type that says it would have to hold again after each write.
 ghost use Rattle.std.specs.Prelude.{◌≡◌, true};
 ghost use Rattle.server.specs.Add.{adds_to};
 ghost use Rattle.calls.specs.Numbers.{refusal};

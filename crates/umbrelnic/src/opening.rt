@@ -1,4 +1,4 @@
-// A connection opened in an image that is taken.
+// A connection opened in an image that is taken: said in `requires`, since a type that says it would have to hold again after each write.
 ghost use Rattle.std.specs.Prelude.{◌≡◌, true};
 ghost use Rattle.server.specs.Open.{enters};
 ghost use Rattle.server.specs.Slots.{is_free};

@@ -57,7 +57,7 @@ pub fn decode(text: &[u8], out: &mut [u8]) -> Result<usize, DecodeError>
     Ok(n)
 }
 
-// Writes the text of some octets into out from index at on. Where it does not fit, out is left as it is.
+// Writes the text of some octets into out, which is lent, from index at on. Where it does not fit, out is left as it is.
 #[tactic(auto, using(crate::proofs::Turns::length_encode))]
 pub fn encode(bytes: &[u8], out: &mut [u8], at: usize) -> Option<usize>
     ensures { (result ≡ encoded bytes.now (length out.old) at) × (out.new ≡ written out.old at (encode bytes.now)) }
