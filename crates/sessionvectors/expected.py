@@ -175,13 +175,13 @@ class Connection:
         print(f"{self.profile} {papers.quoted(text)}: {given}{listed}; {self.stands()}")
 
 
-CALL = re.compile(r'\b(?:on_(?P<on>smtp|pop3)|dialogue)\(\s*(?:rt,\s*)?(?:Profile::(?P<by>\w+)\(\),\s*(?P<protected>true|false),\s*)?(?P<events>b"(?:[^"\\]|\\.)*"),?\s*\)')
+CALL = re.compile(r'\b(?:on_(?P<on>smtp|pop3)|dialogue)\(\s*(?:rt,\s*)?(?:Profile::(?P<by>\w+),\s*(?P<protected>true|false),\s*)?(?P<events>b"(?:[^"\\]|\\.)*"),?\s*\)')
 
 if __name__ == "__main__":
     sys.stdout.reconfigure(newline="\n")
     for call in CALL.finditer((HERE / "src" / "dialogues.rt").read_text()):
         print()
-        connection = Connection(call["on"] or call["by"], call["protected"] != "false")
+        connection = Connection(call["on"] or call["by"].lower(), call["protected"] != "false")
         for text in ast.literal_eval(call["events"]).split(b"|"):
             if text:
                 connection.row(text)

@@ -102,6 +102,14 @@ two w = Some (Two (octet1 w) (octet2 w))
 abbrev pub one : ℕ → Option Group
 one w = Some (One (octet1 w))
 
+-- by their numbers and the last two of them
+abbrev pub grouped : ℕ → ℕ → ℕ → ℕ → ℕ → ℕ → Option Group
+grouped p q r s c d =
+    cond (letters p q r s) (three (joined p q r s))
+    (cond (letters3 p q r d) (two (joined p q r 0))
+    (cond (letters2 p q c d) (one (joined p q 0 0))
+    None))
+
 unfoldable pub group_of : ℕ → ℕ → ℕ → ℕ → Option Group
 group_of a b c d =
     cond (letters (value a) (value b) (value c) (value d)) (three (joined (value a) (value b) (value c) (value d)))

@@ -5,7 +5,7 @@ ghost use Rattle.std.specs.Prelude.{◌≡◌, ◌+◌, ◌-◌, ◌^◌, ◌≤
 ghost use Rattle.std.specs.List.{list_all};
 ghost use Rattle.std.proofs.lemmas.List.Edits.{sets};
 ghost use Rattle.octets.specs.Answers.{written};
-ghost use Rattle.base64text.specs.Base64.{alphabet, letter, value, bits, quad1, quad2, quad3, encode, joined, letters, letters3, letters2, octets3, group_of, octets_of, octets, valid, unchecked, measured, decoded, decoded_into, unchecked_into, encoded};
+ghost use Rattle.base64text.specs.Base64.{alphabet, letter, value, bits, quad1, quad2, quad3, encode, joined, letters, letters3, letters2, octets3, grouped, group_of, octets_of, octets, valid, unchecked, measured, decoded, decoded_into, unchecked_into, encoded};
 ghost use Rattle.base64text.specs.Private.{values, number_range, before_last, last_of, last_group, letters_in};
 
 use octets::DecodeError;
@@ -120,20 +120,14 @@ impl Values {
     pub fn group_of(&self, a: u8, b: u8, c: u8, d: u8) -> Option<Group>
         ensures { result ≡ group_of a b c d }
     {
-        let (p, q, r, s) = (self.value(a), self.value(b), self.value(c), self.value(d));
-        if letters(p, q, r, s) {
-            let [x, y, z] = three(p, q, r, s);
-            return Some(Group::Three(x, y, z));
-        }
-        if letters3(p, q, r, d) {
-            let [x, y, _] = three(p, q, r, 0);
-            return Some(Group::Two(x, y));
-        }
-        if letters2(p, q, c, d) {
-            let [x, _, _] = three(p, q, 0, 0);
-            return Some(Group::One(x));
-        }
-        None
+        grouped(
+            self.value(a),
+            self.value(b),
+            self.value(c),
+            self.value(d),
+            c,
+            d,
+        )
     }
 
     // What the last octets of a text stand for; nothing where they are not four.
@@ -257,6 +251,25 @@ fn letters2(p: u8, q: u8, c: u8, d: u8) -> bool
 {
     let w = joined(p, q, 0, 0);
     (p < 64) & (q < 64) & (c == b'=') & (d == b'=') & (w % 65536 == 0)
+}
+
+// What four octets of text stand for, by their numbers p q r s; c and d are the last two of them. Nothing where they are no group.
+pub fn grouped(p: u8, q: u8, r: u8, s: u8, c: u8, d: u8) -> Option<Group>
+    ensures { result ≡ grouped p q r s c d }
+{
+    if letters(p, q, r, s) {
+        let [x, y, z] = three(p, q, r, s);
+        return Some(Group::Three(x, y, z));
+    }
+    if letters3(p, q, r, d) {
+        let [x, y, _] = three(p, q, r, 0);
+        return Some(Group::Two(x, y));
+    }
+    if letters2(p, q, c, d) {
+        let [x, _, _] = three(p, q, 0, 0);
+        return Some(Group::One(x));
+    }
+    None
 }
 
 impl Group {

@@ -3,6 +3,7 @@ pub mod Lawful
 pub mod Values
 pub mod Offsets
 pub mod Taken
+pub mod Guards
 pub mod Places
 pub mod Differ
 pub mod Keys

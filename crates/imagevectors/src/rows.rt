@@ -206,7 +206,8 @@ pub(crate) fn run(
     kept: &mut [u8],
 ) -> io::Result<()> {
     let mut n = OCTETS;
-    for line in text.split(|x| *x == b'\n') {
+    for piece in text.split_inclusive(|x| *x == b'\n') {
+        let line = piece.strip_suffix(b"\n").unwrap_or(piece);
         n = row(rt, line, n, buffer, kept)?;
     }
     Ok(())

@@ -9,6 +9,12 @@ use Rattle.profile.specs.declared.Profile.{Profile}
 use Rattle.lines.specs.declared.response.ResponseError.{ResponseError}
 use Rattle.lines.specs.declared.response.ResponseError.TheVariants.{TooLong, Cancelled, Malformed}
 
+-- what is printed of a response that is no base64 of a length that is read
+abbrev pub printed : ResponseError → List ℕ
+printed TooLong = ascii "too long"
+printed Cancelled = ascii "cancelled"
+printed Malformed = ascii "malformed"
+
 abbrev pub decoding : Option ℕ → Result ℕ ResponseError
 decoding (Some n) = Ok n
 decoding None = Err Malformed

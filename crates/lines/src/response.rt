@@ -1,6 +1,6 @@
 // A response in an exchange: too long, "*", or base64.
-ghost use Rattle.std.specs.Prelude.{◌≡◌};
-ghost use Rattle.lines.specs.Response.{response};
+ghost use Rattle.std.specs.Prelude.{◌≡◌, Some};
+ghost use Rattle.lines.specs.Response.{printed, response};
 
 use base64text::Base64;
 use octets::reader::measure_at;
@@ -17,6 +17,8 @@ pub enum ResponseError {
 }
 
 impl fmt::Display for ResponseError {
+    ghost output = { λ e. Some (printed e) };
+
     fn fmt<W: fmt::Write>(&self, f: &mut fmt::Formatter<W>) -> fmt::Result {
         f.write_str(match self {
             ResponseError::TooLong => "too long",

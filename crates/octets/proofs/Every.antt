@@ -2,13 +2,13 @@
 use mathlib.Core.Path.{◌≡◌, refl, sym, ◌∙◌, ap}
 use mathlib.Core.Bool.{Bool, true, false, ◌&&◌, and_assoc, false≢true}
 use mathlib.Core.List.{List, [], ◌∷◌, ◌++◌}
-use Prim.Native.Nat.{ℕ, zero, suc, ◌+◌, ◌<◌, ◌≤◌}
+use Prim.Native.Nat.{ℕ, zero, suc, ◌+◌, ◌<◌, ◌≤◌, suc-le-suc}
 use native.Mathlib.Nat.{not-suc-le-zero, le_of_suc-le-suc}
 use native.Mathlib.Numerals.{add-one}
 use native.Mathlib.Omega.{arith}
 use borrow.Author.Tests.{ne_eqb, le-leb, lt-leb, leb-true}
 use lib.Dec.{leb}
-use lib.ListN.{length, get_or, drop, drop_of_length-le}
+use lib.ListN.{length, get_or, set, drop, drop_of_length-le}
 use lib.Seq.{drop-cons}
 use Rattle.octets.specs.Lists.{holds, every, one_to, before, padded_to}
 use Rattle.octets.proofs.Cases.{both}
@@ -61,14 +61,26 @@ module _ (n : ℕ) (f : ℕ → Bool) (l : List ℕ) where
 
 -- a list of any type
 module _ {A : Type 0} (p : A → Bool) where
-  -- from the test to an element
+  -- from the test to an element, and back
   pub every-all : (xs : List A) (d : A) → every p xs ≡ true → (i : ℕ) → i < length xs → p (get_or xs i d) ≡ true
   unfolding every
   every-all [] d e i h = absurd (not-suc-le-zero h)
   every-all (x ∷ xs) d e zero h = (both (p x) (every p xs) e).0
   every-all (x ∷ xs) d e (suc i) h = every-all xs d (both (p x) (every p xs) e).1 i (le_of_suc-le-suc h)
 
+  pub every-intro : (xs : List A) (d : A) → ((i : ℕ) → i < length xs → p (get_or xs i d) ≡ true) → every p xs ≡ true
+  unfolding every
+  every-intro [] d h = refl
+  every-intro (x ∷ xs) d h = rw (h 0 (omega arith)) (every-intro xs d (λ i k. h (suc i) (suc-le-suc k)))
+
   pub every_append : (xs ys : List A) → every p (xs ++ ys) ≡ (every p xs && every p ys)
   unfolding every
   every_append [] ys = refl
   every_append (x ∷ xs) ys = rw (every_append xs ys) (sym (and_assoc (p x) (every p xs) (every p ys)))
+
+  -- an element that passes, stored
+  pub every_set : (xs : List A) (i : ℕ) (v : A) → every p xs ≡ true → p v ≡ true → every p (set xs i v) ≡ true
+  unfolding every
+  every_set [] i v e h = refl
+  every_set (x ∷ xs) zero v e h = rw h (both (p x) (every p xs) e).1
+  every_set (x ∷ xs) (suc i) v e h = rw (both (p x) (every p xs) e).0 (every_set xs i v (both (p x) (every p xs) e).1 h)

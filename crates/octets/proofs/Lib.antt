@@ -9,3 +9,4 @@ pub mod Padded
 pub mod Padding
 pub mod Every
 pub mod Chains
+pub mod TextReaders

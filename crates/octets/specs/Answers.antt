@@ -1,8 +1,14 @@
 -- The answers of measure, decode and encode, for any form of text: a form says whether a text is well formed (`ok`) and what it stands for.
 use Rattle.std.specs.Prelude.{Bool, cond, List, ℕ, ◌+◌, leb, length, Option, Some, None, Result, Ok, Err}
 use Rattle.std.proofs.lemmas.List.Edits.{sets}
+use Rattle.octets.specs.Ascii.{ascii}
 use Rattle.octets.specs.declared.DecodeError.{DecodeError}
 use Rattle.octets.specs.declared.DecodeError.TheVariants.{Malformed, Short}
+
+-- what is printed of an error
+abbrev pub printed : DecodeError → List ℕ
+printed Malformed = ascii "malformed"
+printed Short = ascii "short"
 
 -- a buffer into which l was written from index `at` on; where l does not fit, the buffer as it was lent
 abbrev pub written : List ℕ → ℕ → List ℕ → List ℕ

@@ -1,9 +1,9 @@
 // What every reading and writing of octets shares: the part of a line that is read, the forms of text, and their answers.
 #![tactic(auto)]
 
-ghost use Rattle.std.specs.Prelude.{◌≡◌, ◌+◌, length, drop};
+ghost use Rattle.std.specs.Prelude.{◌≡◌, ◌+◌, length, drop, Some};
 ghost use Rattle.std.proofs.Math.Seq.{slice};
-ghost use Rattle.octets.specs.Answers.{written, encoded};
+ghost use Rattle.octets.specs.Answers.{printed, written, encoded};
 ghost use Rattle.octets.specs.Ascii.{capital, capitals};
 ghost use Rattle.octets.specs.Lists.{same, before, padded_to};
 
@@ -21,6 +21,8 @@ pub enum DecodeError {
 }
 
 impl fmt::Display for DecodeError {
+    ghost output = { λ e. Some (printed e) };
+
     fn fmt<W: fmt::Write>(&self, f: &mut fmt::Formatter<W>) -> fmt::Result {
         f.write_str(match self {
             DecodeError::Malformed => "malformed",
@@ -89,7 +91,7 @@ pub fn padded_to<const N: usize>(text: &[u8]) -> [u8; N]
 }
 
 // Writes octets into out from index at on. Where they do not fit, out is left as it is. A buffer is lent with an index, as the library has no heap.
-#[tactic(auto, using(crate::proofs::Chains::copies))]
+// One by one: `copy_from_slice` is compiled to memmove, which a host in C would have to link too, where this is memcpy.
 pub fn write(bytes: &[u8], out: &mut [u8], at: usize) -> Option<usize>
     ensures { (result ≡ encoded bytes.now (length out.old) at) × (out.new ≡ written out.old at bytes.now) }
 {
@@ -97,6 +99,8 @@ pub fn write(bytes: &[u8], out: &mut [u8], at: usize) -> Option<usize>
     if out.len() < end {
         return None;
     }
-    out[at..end].copy_from_slice(bytes);
+    for i in 0..bytes.len() {
+        out[at + i] = bytes[i];
+    }
     Some(end)
 }

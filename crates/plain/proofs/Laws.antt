@@ -147,6 +147,24 @@ module _ (a c p : List ℕ) where
         → (length a + 1 + length c + 1 + length p ≡ length (joined a c p)) × (o5 ≡ written o 0 (joined a c p))
     five-parts e1 e2 e3 e4 e5 = (omega (arith, length-joined), rw (e5, e4, e3, e2, e1) parts)
 
+  -- what is written, by the two tests
+  module _ (o : List ℕ) where
+    pub unfit : fit a c p ≡ false → (Err Unfit ≡ writing a c p (length o)) × (o ≡ written_into a c p o)
+    unfolding writing written_into
+    unfit e = (rw e, rw e)
+
+    pub short : fit a c p ≡ true → leb (length a + (length c + length p + 2)) (length o) ≡ false → (Err Short ≡ writing a c p (length o)) × (o ≡ written_into a c p o)
+    unfolding writing written_into
+    short e f =
+        let g : leb (length (joined a c p)) (length o) ≡ false = rw length-joined f in
+        let k : leb (0 + length (joined a c p)) (length o) ≡ false = rw (zero-add (length (joined a c p))) g in
+        (rw (e, g), rw (e, k))
+
+    pub wrote : fit a c p ≡ true → leb (length a + (length c + length p + 2)) (length o) ≡ true → (n : ℕ) (w : List ℕ) → n ≡ length (joined a c p) → w ≡ written o 0 (joined a c p)
+        → (Ok n ≡ writing a c p (length o)) × (w ≡ written_into a c p o)
+    unfolding writing written_into
+    wrote e f n w u v = let g : leb (length (joined a c p)) (length o) ≡ true = rw length-joined f in (rw (e, g, u), rw e v)
+
 -- what the writer wrote, read again, has the fields' lengths, and is these fields joined (M-100 of document 02)
 pub read_back : (a c p o : List ℕ) (n : ℕ) → writing a c p (length o) ≡ Ok n
     → (fields (take n (written_into a c p o)) ≡ Some (lengths (length a) (length c) (length p))) × (take n (written_into a c p o) ≡ joined a c p)

@@ -1,5 +1,6 @@
--- The numbers by which a host in C speaks with the server, each set out once.
-use Rattle.std.specs.Prelude.{cond, ℕ, eqb, Result, Ok, Err}
+-- The numbers by which a host in C speaks with the server, each set out once, and the words by which profiles and verdicts are printed.
+use Rattle.std.specs.Prelude.{cond, List, ℕ, eqb, Result, Ok, Err}
+use Rattle.octets.specs.Ascii.{ascii}
 use Rattle.profile.specs.declared.Profile.{Profile}
 use Rattle.profile.specs.declared.Profile.TheVariants.{Smtp, Pop3}
 use Rattle.profile.specs.declared.numbers.Verdict.{Verdict}
@@ -22,6 +23,10 @@ profile_of n =
     (cond (eqb n (profile_number Pop3)) (Ok Pop3)
     (Err NotListed))
 
+abbrev pub profile_word : Profile → List ℕ
+profile_word Smtp = ascii "smtp"
+profile_word Pop3 = ascii "pop3"
+
 -- "Verdicts: challenge ..; success with a name ..; rejected, temporary, transition, weak", in this order from 0
 abbrev pub verdict_number : Verdict → ℕ
 verdict_number Challenge = 0
@@ -40,6 +45,14 @@ verdict_of n =
     (cond (eqb n (verdict_number Transition)) (Ok Transition)
     (cond (eqb n (verdict_number Weak)) (Ok Weak)
     (Err NotListed))))))
+
+abbrev pub verdict_word : Verdict → List ℕ
+verdict_word Challenge = ascii "challenge"
+verdict_word Success = ascii "success"
+verdict_word Rejected = ascii "rejected"
+verdict_word Temporary = ascii "temporary"
+verdict_word Transition = ascii "transition"
+verdict_word Weak = ascii "weak"
 
 -- "No. | Given exactly when"; 0, which is no refusal's number, tells that a call was not refused
 abbrev pub refusal_number : Refusal → ℕ

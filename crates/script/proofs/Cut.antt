@@ -1,16 +1,14 @@
 -- What a script line says when octets are cut off its end. Assumes nothing.
 use mathlib.Core.Path.{◌≡◌, refl, sym, ◌∙◌}
-use mathlib.Core.Bool.{Bool, true, false, not, cond, ◌&&◌, ◌||◌, false≢true}
+use mathlib.Core.Bool.{Bool, true, false, cond, ◌||◌, and-true, false≢true}
 use mathlib.Core.List.{List, [], ◌∷◌, ◌++◌, append-nil}
-use Prim.Native.Nat.{ℕ, zero, suc, ◌+◌, ◌-◌, ◌*◌, ◌<◌, ◌≤◌}
+use Prim.Native.Nat.{ℕ, zero, suc, ◌+◌, ◌-◌, ◌*◌, ◌%◌, ◌<◌, ◌≤◌}
 use native.Mathlib.Nat.{not-suc-le-zero}
 use native.Mathlib.Omega.{arith}
 use Rattle.std.proofs.Common.{rules}
-use Rattle.std.proofs.lemmas.Bool.Decides.{nat_tests}
 use borrow.Author.Tests.{eqb-false}
 use lib.Dec.{eqb}
 use lib.ListN.{length, length-append, length-drop}
-use Rattle.std.specs.Bool.{beq}
 use Rattle.std.specs.Prelude.{Option, Some, None, option_and_then}
 use Rattle.octets.specs.Ascii.{space}
 use Rattle.octets.specs.Lists.{holds, every, before, after}
@@ -19,7 +17,7 @@ use Rattle.octets.proofs.Words.{same-lengths, after-drop}
 use Rattle.octets.proofs.Every.{every_append}
 use Rattle.script.specs.Command.{hex_text, fitting, digits_of, arguments, call, openings, opening}
 use Rattle.script.specs.Hex.{hexdig}
-use Rattle.script.specs.Kept.{is_odd, beyond, none}
+use Rattle.script.specs.Kept.{beyond, none}
 use Rattle.script.specs.Number.{value_from, digits_from, number}
 use Rattle.script.specs.Texts.{found}
 use Rattle.script.specs.Word.{words, word_of, takes_text}
@@ -103,18 +101,13 @@ module _ (x : ℕ) where
       go true h ih = absurd (false≢true (sym h))
       go false h ih = omega (arith, ih h)
 
--- whether a sum is odd
-pub odd-sum : (m n : ℕ) → is_odd (m + n) ≡ not (beq (is_odd m) (is_odd n))
-odd-sum m n = grind (arith, nat_tests)
-
-turned : (a b c : Bool) → (a && beq b c) ≡ ((a && true) && beq false (not (beq c b)))
-turned a b c = grind arith
-
 -- the arguments l of a word, of which v is cut off
 module _ (v : List ℕ) where
   hex-cut : (t : List ℕ) → hex_text t (beyond v) ≡ hex_text (t ++ v) none
   unfolding hex_text every
-  hex-cut t = rw (every_append hexdig t v, length-append t v, odd-sum (length t) (length v)) (turned (every hexdig t && every hexdig v) (is_odd (length v)) (is_odd (length t)))
+  hex-cut t =
+      let z : (length t + length v % 2) % 2 ≡ (length (t ++ v) + 0) % 2 = omega (arith, length-append t v) in
+      rw (every_append hexdig t v, z, and-true)
 
   fitting-cut : (w : Word) (t : List ℕ) → fitting w t (beyond v) ≡ fitting w (t ++ v) none
   fitting-cut w t = grind (arith, hex-cut)

@@ -1,7 +1,7 @@
 -- A script line of any length says what it would say if all of it were kept, and the text that is kept begins the whole text. Assumes nothing.
 use mathlib.Core.Path.{◌≡◌, refl, sym, ◌∙◌, ap}
 use mathlib.Core.List.{List, [], ◌∷◌, ◌++◌}
-use Prim.Native.Nat.{ℕ, ◌+◌, ◌-◌, ◌<◌, ◌≤◌, min}
+use Prim.Native.Nat.{ℕ, ◌+◌, ◌-◌, ◌%◌, ◌<◌, ◌≤◌, min}
 use native.Mathlib.Nat.{add-zero}
 use native.Mathlib.Omega.{arith}
 use borrow.Author.Tests.{le-leb}
@@ -23,11 +23,13 @@ use Rattle.script.specs.declared.kept.Kept.{Kept}
 use Rattle.script.specs.declared.word.Word.{Word}
 use Rattle.script.specs.declared.command.Command.{Command}
 use Rattle.script.specs.declared.command.Command.TheVariants.{Open, Line, Hexline, Verdict, Ended, Who, Close}
-use Rattle.script.proofs.Cut.{odd-sum, too_many, too_long, not-opening, call-cut}
+use Rattle.script.proofs.Cut.{too_many, too_long, not-opening, call-cut}
 
 -- octets that are not kept, in two parts
 pub beyond-append : (u v : List ℕ) → extended (beyond u) v ≡ beyond (u ++ v)
-beyond-append u v = rw (every_append hexdig u v, length-append u v, odd-sum (length u) (length v))
+beyond-append u v =
+    let z : (length u % 2 + length v) % 2 ≡ length (u ++ v) % 2 = omega (arith, length-append u v) in
+    rw (every_append hexdig u v, z)
 
 -- a buffer b of m octets holds the line l as k says
 pub record Holds (m : ℕ) (l b : List ℕ) (k : Kept) : Type 0 where

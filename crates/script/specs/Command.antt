@@ -1,6 +1,5 @@
 -- What a script line says: the rows of docs/DESKRUN.md's first table. "Any other line is unreadable".
-use Rattle.std.specs.Prelude.{Bool, true, false, cond, ◌&&◌, List, [], ◌∷◌, ℕ, ◌+◌, length, Option, None, option_map, option_and_then}
-use Rattle.std.specs.Bool.{beq}
+use Rattle.std.specs.Prelude.{Bool, true, false, cond, ◌&&◌, List, [], ◌∷◌, ℕ, ◌+◌, ◌%◌, eqb, length, Option, None, option_map, option_and_then}
 use Rattle.std.specs.Option.{option_or}
 use Rattle.octets.specs.Ascii.{ascii, space}
 use Rattle.octets.specs.Lists.{every, before, after}
@@ -11,7 +10,6 @@ use Rattle.script.specs.declared.word.Word.{Word}
 use Rattle.script.specs.declared.command.Command.{Command}
 use Rattle.script.specs.declared.command.Command.TheVariants.{Open, Line, Hexline, Verdict, Ended, Who, Close}
 use Rattle.script.specs.Hex.{hexdig}
-use Rattle.script.specs.Kept.{is_odd}
 use Rattle.script.specs.Number.{number}
 use Rattle.script.specs.Texts.{found}
 use Rattle.script.specs.Word.{word_of, takes_text}
@@ -27,7 +25,7 @@ made Words.Close n from = Close n
 
 -- "hex digits, two for each octet": the text and the rest of it that is not kept
 unfoldable pub hex_text : List ℕ → Rest → Bool
-hex_text t r = every hexdig t && r.digits && beq r.odd (is_odd (length t))
+hex_text t r = every hexdig t && r.digits && eqb ((length t + r.parity) % 2) 0
 
 abbrev pub fitting : Word → List ℕ → Rest → Bool
 fitting Words.Hexline t r = hex_text t r

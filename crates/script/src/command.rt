@@ -115,7 +115,7 @@ fn fits(word: Word, text: &[u8], rest: Rest) -> bool
 fn is_hex_text(text: &[u8], rest: Rest) -> bool
     ensures { result ≡ hex_text text.now rest }
 {
-    is_hex(text) && rest.digits && rest.odd == (text.len() % 2 == 1)
+    is_hex(text) && rest.digits && (text.len() % 2 + rest.parity % 2) % 2 == 0
 }
 
 // The call of a word with a number and a text from an index on.

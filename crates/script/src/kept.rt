@@ -5,11 +5,11 @@ ghost use Rattle.script.specs.Kept.{none, extended, started, added};
 
 use crate::hex::is_hex;
 
-// Octets that are not kept: whether they are hexadecimal digits alone, and whether their number is odd.
+// Octets that are not kept: whether they are hexadecimal digits alone, and their number, which counts modulo 2.
 #[derive(Clone, Copy, Debug, PartialEq, Eq)]
 pub struct Rest {
     pub digits: bool,
-    pub odd: bool,
+    pub parity: usize,
 }
 
 // A line: how many octets of it the buffer holds, and the rest. The buffer is lent at each step, since this crate has no heap.
@@ -27,7 +27,7 @@ impl Rest {
     {
         Rest {
             digits: true,
-            odd: false,
+            parity: 0,
         }
     }
 
@@ -37,7 +37,7 @@ impl Rest {
     {
         Rest {
             digits: self.digits && is_hex(more),
-            odd: self.odd != (more.len() % 2 == 1),
+            parity: (self.parity % 2 + more.len() % 2) % 2,
         }
     }
 }

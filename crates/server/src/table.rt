@@ -6,7 +6,7 @@ ghost use Rattle.server.specs.Limits.{most_mechanisms};
 ghost use Rattle.server.specs.Mechanisms.{listed, offered};
 
 use crate::{MOST_MECHANISMS, Mechanism, Mechanisms};
-use lines::mechanism::{LONGEST_MECHANISM, name_of};
+use lines::mechanism::{LONGEST_MECHANISM, name_of, same_name};
 use session::view::Offer;
 
 impl Mechanism {
@@ -21,11 +21,10 @@ impl Mechanism {
         }
     }
 
-    #[tactic(auto, using(octets::proofs::Chains::same_is))]
     pub fn is_named(self, name: [u8; LONGEST_MECHANISM]) -> bool
         ensures { result ≡ same self.name name }
     {
-        self.name == name
+        same_name(self.name, name)
     }
 }
 
