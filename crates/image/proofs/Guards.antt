@@ -1,4 +1,4 @@
--- What a guard lets through: an index of a whole image. Assumes nothing.
+-- What a guard lets through: an index of a whole image. docs/PORT.md gives these laws; no proof cites them now. Assumes nothing.
 use mathlib.Core.Path.{◌≡◌, sym, ap, ◌∙◌}
 use mathlib.Core.Bool.{Bool, true, false, cond}
 use Prim.Native.Nat.{ℕ, ◌<◌}

@@ -9,7 +9,7 @@ use Rattle.profile.specs.declared.Profile.{Profile}
 use Rattle.lines.specs.declared.response.ResponseError.{ResponseError}
 use Rattle.lines.specs.declared.response.ResponseError.TheVariants.{TooLong, Cancelled, Malformed}
 
--- what is printed of a response that is no base64 of a length that is read
+-- what is printed of a response that has no length: the words of the rule below, its cause by cause
 abbrev pub printed : ResponseError → List ℕ
 printed TooLong = ascii "too long"
 printed Cancelled = ascii "cancelled"

@@ -1,4 +1,5 @@
--- Of a reading that took what stands there, and of one that did not: the index reached. Assumes nothing.
+-- Of a reading that took what stands there, and of one that did not: the index reached. docs/PORT.md names
+-- the first law; no proof cites them now. Assumes nothing.
 use mathlib.Core.Path.{◌≡◌}
 use mathlib.Core.List.{List}
 use Prim.Native.Nat.{ℕ}

@@ -5,7 +5,7 @@ use Rattle.octets.specs.Ascii.{ascii}
 use Rattle.octets.specs.declared.DecodeError.{DecodeError}
 use Rattle.octets.specs.declared.DecodeError.TheVariants.{Malformed, Short}
 
--- what is printed of an error
+-- what is printed of an error: the word of the cause, which no rule sets
 abbrev pub printed : DecodeError → List ℕ
 printed Malformed = ascii "malformed"
 printed Short = ascii "short"

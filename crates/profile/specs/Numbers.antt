@@ -1,4 +1,4 @@
--- The numbers by which a host in C speaks with the server, each set out once, and the words by which profiles and verdicts are printed.
+-- The numbers by which a host in C speaks with the server, each set out once, and what is printed of profiles and verdicts.
 use Rattle.std.specs.Prelude.{cond, List, ℕ, eqb, Result, Ok, Err}
 use Rattle.octets.specs.Ascii.{ascii}
 use Rattle.profile.specs.declared.Profile.{Profile}
@@ -23,9 +23,10 @@ profile_of n =
     (cond (eqb n (profile_number Pop3)) (Ok Pop3)
     (Err NotListed))
 
-abbrev pub profile_word : Profile → List ℕ
-profile_word Smtp = ascii "smtp"
-profile_word Pop3 = ascii "pop3"
+-- what is printed of a profile, and of a verdict below: its word in a script (docs/DESKRUN.md, "What a script line says")
+abbrev pub printed_profile : Profile → List ℕ
+printed_profile Smtp = ascii "smtp"
+printed_profile Pop3 = ascii "pop3"
 
 -- "Verdicts: challenge ..; success with a name ..; rejected, temporary, transition, weak", in this order from 0
 abbrev pub verdict_number : Verdict → ℕ
@@ -46,13 +47,13 @@ verdict_of n =
     (cond (eqb n (verdict_number Weak)) (Ok Weak)
     (Err NotListed))))))
 
-abbrev pub verdict_word : Verdict → List ℕ
-verdict_word Challenge = ascii "challenge"
-verdict_word Success = ascii "success"
-verdict_word Rejected = ascii "rejected"
-verdict_word Temporary = ascii "temporary"
-verdict_word Transition = ascii "transition"
-verdict_word Weak = ascii "weak"
+abbrev pub printed_verdict : Verdict → List ℕ
+printed_verdict Challenge = ascii "challenge"
+printed_verdict Success = ascii "success"
+printed_verdict Rejected = ascii "rejected"
+printed_verdict Temporary = ascii "temporary"
+printed_verdict Transition = ascii "transition"
+printed_verdict Weak = ascii "weak"
 
 -- "No. | Given exactly when"; 0, which is no refusal's number, tells that a call was not refused
 abbrev pub refusal_number : Refusal → ℕ

@@ -4,7 +4,7 @@
 ghost use Rattle.std.specs.Prelude.{◌≡◌, length, Some};
 ghost use Rattle.octets.specs.Answers.{written, encoded};
 ghost use Rattle.profile.specs.Limits.{command_limit, mail_limit, response_limit};
-ghost use Rattle.profile.specs.Numbers.{profile_number, profile_of, profile_word};
+ghost use Rattle.profile.specs.Numbers.{profile_number, profile_of, printed_profile};
 ghost use Rattle.profile.specs.Texts.{crlf, reply, challenge_prefix};
 
 pub mod numbers;
@@ -129,7 +129,7 @@ impl TryFrom<u64> for Profile {
 }
 
 impl fmt::Display for Profile {
-    ghost output = { λ p. Some (profile_word p) };
+    ghost output = { λ p. Some (printed_profile p) };
 
     fn fmt<W: fmt::Write>(&self, f: &mut fmt::Formatter<W>) -> fmt::Result {
         f.write_str(match self {

@@ -1,6 +1,6 @@
 // The numbers of verdicts, refusals, answers and identities, as a host in C passes and gets them.
 ghost use Rattle.std.specs.Prelude.{◌≡◌, Some};
-ghost use Rattle.profile.specs.Numbers.{verdict_of, verdict_number, verdict_word, refusal_number, kind_number, identity_number};
+ghost use Rattle.profile.specs.Numbers.{verdict_of, verdict_number, printed_verdict, refusal_number, kind_number, identity_number};
 
 use std::fmt;
 
@@ -69,7 +69,7 @@ impl TryFrom<u64> for Verdict {
 }
 
 impl fmt::Display for Verdict {
-    ghost output = { λ v. Some (verdict_word v) };
+    ghost output = { λ v. Some (printed_verdict v) };
 
     fn fmt<W: fmt::Write>(&self, f: &mut fmt::Formatter<W>) -> fmt::Result {
         f.write_str(match self {
